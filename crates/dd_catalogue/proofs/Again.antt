@@ -42,7 +42,7 @@ same_greatest tuple {key = key} {order = order} o s r v w i j same stands =
       };
     }))
 
--- the patient keys of the versions r stand for those of s, and so do the study keys and the series keys
+-- the patient keys of the versions r stand for the patient keys of s, and so do the study keys and the series keys
 pub record AllStandFor (s r : List Parts) : Type 0 where
   pub patients : StandsFor patient_key patient_cmp (map patient_of s) (map patient_of r)
   pub studies : StandsFor study_key study_cmp (map study_of s) (map study_of r)

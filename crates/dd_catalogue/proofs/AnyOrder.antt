@@ -1,5 +1,5 @@
--- What is joined gives the same in whatever order and however often: by the laws of a join alone, which make the join
--- of a list absorb each of its members.
+-- What is joined gives the same in whatever order and however often. This is by the laws of a join alone, which make
+-- the join of a list absorb each of its members.
 use Rattle.std.specs.Prelude.{◌≡◌, List, [], ◌∷◌}
 use Rattle.std.specs.List.{AllByRecursion, fold}
 use Rattle.std.proofs.Common.{refl, sym, ◌∙◌, ap, subst, inl, inr}

@@ -2,9 +2,9 @@
 use Rattle.std.specs.Prelude.{◌≡◌, List, Contains}
 use Rattle.dd_version.specs.declared.parts.Parts.{Parts}
 
--- two versions of one image that differ at most in what they tell of its patient, its study and its series: they have
--- one path (PS3.3 section F.4), which is Patient ID and the UIDs of study, series and instance, and one value of each
--- field of the image itself
+-- Two versions of one image that differ at most in what they tell of its patient, its study and its series. They have
+-- one path (PS3.3 section F.4), which is Patient ID and the UIDs of study, series and instance. They have one value of
+-- each field of the image itself.
 pub record IsSameImage (v w : Parts) : Type 0 where
   pub patient : v.patient.id ≡ w.patient.id
   pub study : v.study.uid ≡ w.study.uid

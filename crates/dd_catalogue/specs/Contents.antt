@@ -41,8 +41,8 @@ held_of c = record { versions = kept_of c.versions c.withdrawn; withdrawn = uids
 abbrev pub all_of : Contents → Contents → Contents
 all_of c d = record { versions = c.versions ++ d.versions; withdrawn = c.withdrawn ++ d.withdrawn }
 
--- how many pairs of UIDs a merge of d into c compares: of the withdrawn UIDs of both, of the versions of both, and of
--- the best of these versions with all withdrawn UIDs
+-- How many pairs of UIDs a merge of d into c compares. They are of the withdrawn UIDs of both, of the versions of both,
+-- and of the best of these versions with all withdrawn UIDs.
 abbrev pub compared_in_merge : Contents → Contents → ℕ
 compared_in_merge c d =
     compared_keys bytes_cmp c.withdrawn d.withdrawn + compared_of c.versions d.versions

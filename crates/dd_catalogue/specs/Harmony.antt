@@ -37,8 +37,8 @@ series_key keys = keys.uid
 
 -- ---- harmony as a relation
 
--- the greatest tuple like the version's: it has the key of the version's tuple, and of all tuples that the versions
--- of the set have with that key it is the greatest
+-- the greatest tuple like the version's: it has the key of the version's tuple, and is the greatest with that key among
+-- the tuples of the set's versions
 pub record IsGreatestLike {V T : Type 0} (tuple : V → T) (key : T → List ℕ) (order : T → T → Ordering)
     (m : List V) (v : V) (t : T) : Type 0 where
   pub like : key t ≡ key (tuple v)

@@ -46,8 +46,8 @@ pub fn kept_of_kept()
         → kept_of (kept_of s w ++ kept_of t u) (w ++ u) ≡ kept_of (s ++ t) (w ++ u) }
 {}
 
-/// What two catalogues hold together is what one holds that took and withdrew all the same, and so is what a
-/// catalogue holds that takes one version more or withdraws one instance more.
+/// Two merged catalogues hold what one holds that took and withdrew all the same. So does a catalogue that takes one
+/// version more, or withdraws one instance more.
 pub fn held_of_held()
     ensures both { (c d : Contents) → HoldsBoth c d }
     ensures version { (c : Contents) (v : Parts) → HoldsVersion c v }

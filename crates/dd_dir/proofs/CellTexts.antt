@@ -33,7 +33,7 @@ cell_room vr value padding whole is short = go (is_long_of vr) where
   go true = let k = ap length is in let j = length-append value padding in let s = short.1 in omega arith
   go false = let k = ap length is in let j = length-append value padding in let s = short.1 in omega arith
 
--- the text of what is left of a list of elements begins with that of the next
+-- the text of what is left of a list of elements begins with the text of the next
 pub cell_at : (cells : List Cell) (i : ℕ) (d : Cell) → i < length cells
     → elements_text (elements_of (map cell_element (drop i cells)))
     ≡ element_text (cell_element (get_or cells i d))

@@ -35,7 +35,7 @@ syntax_valid = IsUid_from_is_uid (codes "1.2.840.10008.1.2.1") refl
 second_below : (xs ys : List ℕ) (n : ℕ) → length (xs ++ ys) ≡ n → n < 2 ^ 32 → length ys < 2 ^ 64
 second_below xs ys n is below = omega (arith, length-append xs ys, is, below)
 
--- its elements are those of a data set
+-- its elements are elements of a data set
 set_spelled : (label : Label) (versions : List Parts) (withdrawn : List (List ℕ))
     → All (IsSound (length versions)) (records_of label versions)
     → size label versions withdrawn < 2 ^ 32 → length label.id ≤ max_set_id_length

@@ -1,5 +1,5 @@
--- Trees from the rows of a tree, from the back: each row takes what stands after it one level further down as the
--- trees below it, and what stands after it at its own level as the trees after it.
+-- Trees from the rows of a tree, from the back. What stands after a row one level further down becomes the trees below
+-- it. What stands after it at its own level becomes the trees after it.
 use Rattle.std.specs.Prelude.{List, [], ◌∷◌}
 use Rattle.dd_layout.specs.declared.level.Level.{Level}
 use Rattle.dd_layout.specs.declared.level.Level.TheVariants.{Patient, Study, Series, Image}

@@ -1,4 +1,5 @@
--- Records joined to trees: what is known of the chain from a offset when that of its record, or of the next one, is.
+-- Records joined to trees: what is known of the chain from an offset when the chain below its record, or from the next
+-- one, is known.
 use Rattle.std.proofs.Common.{◌≡◌, ◌≢◌, ℕ, ◌+◌, Bool, true, false, List, [], ◌∷◌, ◌++◌, Option, Some, Ok, Err}
 use Rattle.std.proofs.Common.{nat_le, if◌then◌else◌, map, refl, sym, ap, subst, ◌∙◌, append_assoc, append-nil, inl, inr}
 use Rattle.std.proofs.lemmas.List.{map-append}

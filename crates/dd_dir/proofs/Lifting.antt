@@ -147,7 +147,7 @@ not_found : (starts : List ℕ) (p i : ℕ) → ((k : ℕ) → k < i → get_or 
 not_found starts p i below above k within is =
     elim (cases_lt k i) [ inl less ↦ omega (arith, below k less) | inr more ↦ omega (arith, above k more within) ]
 
--- the place is that of no start
+-- no start is at the place
 pub dangling : (low : ℕ) (starts : List ℕ) (sets : List Elements) (seen : Bool) (x p i level : ℕ) → Rises low starts
     → x ≡ p → IsBinarySearchResult (λ y. nat_cmp y x) starts (Err i)
     → found_at p level seen (stands_in starts sets p) ≡ Err (Dangling p)
@@ -176,7 +176,7 @@ pub twice : (p level : ℕ) (seen : Bool) (found : Option Elements) → AtStart 
     → found_at p level seen found ≡ Err (Twice p)
 twice p level seen found at = rw (at.1, at.2) refl
 
--- a pending set of the code, as it is seen
+-- the view of the pending sets has at each place the view of the set there
 pub pending_is : (pending : List (Option DataSet)) (i : ℕ) (d : Option DataSet) → i < length pending
     → get_or (pending_view pending) i None ≡ option_map set_view (get_or pending i d)
 pending_is pending i d within = get_or-map (λ (s : Option DataSet). option_map set_view s) pending i d None within

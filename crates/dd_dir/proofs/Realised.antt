@@ -45,7 +45,7 @@ tree_realised label m withdrawn up sent =
       each = subst (VisitsEachOnce m) (sym paths) (tree_once m);
     }
 
--- ---- versions that are those of a catalogue in harmony
+-- ---- versions of a catalogue in harmony
 
 pub realises : (label : Label) (versions m : List Parts) (withdrawn : List (List ℕ)) → IsSent label versions withdrawn
     → IsCatalogue m → versions ≡ harmonised m → Realises label m (directory_of label versions withdrawn)

@@ -1,4 +1,4 @@
--- The values that the elements of a record hold: those of its version, without their padding.
+-- The values that the elements of a record hold: its version's, without their padding.
 use Rattle.std.proofs.Common.{◌≡◌, ℕ, Bool, true, false, cond, eqb, List, [], ◌∷◌, ◌++◌, length, Option, Some}
 use Rattle.std.proofs.Common.{refl, ap, ◌∙◌, arith}
 use Rattle.std.proofs.lemmas.Bool.{eqb-true}

@@ -34,7 +34,7 @@ root_is (a ∷ b ∷ []) = refl
 root_is (a ∷ b ∷ c ∷ []) = refl
 root_is (a ∷ b ∷ c ∷ d ∷ x) = refl
 
--- the offset of a record is that of its path
+-- the offset of a record is the offset of its path
 offset_is : (label : Label) (versions : List Parts) (x : Option Path)
     → offset_of (option_map (record_at label versions) x) ≡ at_or_none label versions x
 offset_is label versions None = refl

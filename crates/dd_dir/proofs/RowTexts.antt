@@ -37,7 +37,7 @@ abbrev pub rows_text : PlanRecord → Parts → List Row → List ℕ
 rows_text planned parts rows =
     text_of (table_elements rows planned.level planned.next planned.lower planned.file parts)
 
--- the text of the rows that are left begins with that of the next
+-- the text of the rows that are left begins with the text of the next
 row_at : (planned : PlanRecord) (parts : Parts) (rows : List Row) (i : ℕ) (d : Row) → i < length rows
     → rows_text planned parts (drop i rows)
     ≡ text_of (row_of planned parts (get_or rows i d)) ++ rows_text planned parts (drop (i + 1) rows)
@@ -46,7 +46,7 @@ row_at planned parts rows i d within =
     ∙ text-append (row_of planned parts (get_or rows i d))
     (table_elements (drop (i + 1) rows) planned.level planned.next planned.lower planned.file parts)
 
--- which is that of its element, where it has one
+-- which is the text of its element, where it has one
 pub row_sends : (planned : PlanRecord) (parts : Parts) (rows : List Row) (i : ℕ) (d : Row) (given : Option Cell)
     (cell : Cell) → i < length rows → cell_elements given ≡ row_of planned parts (get_or rows i d) → given ≡ Some cell
     → rows_text planned parts (drop i rows)
@@ -83,7 +83,7 @@ rest_is planned parts rows i d given within is =
     ∙ ap (λ (es : List Element). es
     ++ table_elements (drop (i + 1) rows) planned.level planned.next planned.lower planned.file parts) (sym is)
 
--- the elements of the rows that are left are, where those of the others are
+-- the elements of the rows that are left are short, where the element of the next and the others are
 pub row_short : (planned : PlanRecord) (parts : Parts) (rows : List Row) (i : ℕ) (d : Row) (given : Option Cell)
     → i < length rows → cell_elements given ≡ row_of planned parts (get_or rows i d)
     → IfSome given (λ cell. IsShort (even_value cell.value)) → AreShort planned parts (drop (i + 1) rows)

@@ -1,4 +1,4 @@
--- What the records of the rows of a tree say: each that of its version.
+-- What the records of the rows of a tree say: each what its version says.
 use Rattle.std.specs.Prelude.{◌≡◌, ◌≢◌, ℕ, zero, suc, true, List, [], ◌∷◌, ◌++◌, length, map, IsSomeAnd}
 use Rattle.std.specs.Prelude.{Option, Some, None, slice_get}
 use Rattle.std.specs.List.{AllByRecursion}

@@ -1,5 +1,5 @@
--- Following offsets from a place: the trees there are one, a stop there is one and has one fault, and trees that are
--- apart and a stop exclude each other (PS3.3 section F.3.2.2).
+-- Following offsets from a place (PS3.3 section F.3.2.2): the trees there are unique, and so are a stop there and its
+-- fault. Trees that are apart and a stop exclude each other.
 use Rattle.std.proofs.Common.{◌≡◌, ◌≢◌, ℕ, ◌+◌, Bool, true, false, List, [], ◌∷◌, ◌++◌, Option, Some, None}
 use Rattle.std.proofs.Common.{Result, Ok, Err, if◌then◌else◌, refl, sym, ap, subst, ◌∙◌}
 use Rattle.std.specs.Prelude.{nat_le}
@@ -48,7 +48,7 @@ pub apart_joined : (ps qs : List ℕ) (seen : Seen) → AreApart seen ps → Are
 apart_joined [] qs seen front back = back
 apart_joined (p ∷ ps) qs seen front back = (front.0, apart_joined ps qs (with p seen) front.1 back)
 
--- those of a tree and of what comes after it
+-- the offsets of a tree and of what comes after it
 pub apart_tree : (p : ℕ) (node : Node) (below after : Trees) (seen : Seen) → node.at ≡ p
     → AreApart seen (offsets (tree node below after)) → (seen p ≡ false) × AreApart (with p seen) (offsets below)
     × AreApart (with_all (offsets below) (with p seen)) (offsets after)

@@ -21,16 +21,17 @@ use Rattle.dd_layout.specs.Tree.{children, first_child}
 use Rattle.dd_layout.specs.Withdrawals.{withdrawal_elements}
 use Rattle.sha2.specs.Sha256.{sha256}
 
--- the offset of the first root record, and of the last, where there are records: the roots are those whose path has one
--- part, and the empty path is their parent
+-- The offset of the first root record, and of the last, where there are records. The path of a root has one part, and
+-- the empty path is its parent.
 abbrev pub first_root : Label → List Parts → ℕ
 first_root label versions = at_or_none label versions (first_child (tree versions) [])
 
 abbrev pub last_root : Label → List Parts → ℕ
 last_root label versions = at_or_none label versions (last_or None (children (tree versions) []))
 
--- All offsets in a directory of these versions are smaller than this number of bytes: those of the first and of the
--- last root record, and of each record its own, that of the next one and that of the first one below; none is 0.
+-- All offsets in a directory of these versions are smaller than this number of bytes. They are the offsets of the first
+-- and the last root record, of each record, of its next one and of the first one below. The offset is 0 where there is
+-- no record.
 pub record OffsetsWithin (bytes : ℕ) (label : Label) (versions : List Parts) : Type 0 where
   pub first : first_root label versions < bytes
   pub last : last_root label versions < bytes
@@ -87,6 +88,6 @@ directory label m withdrawn = directory_of label (harmonised m) withdrawn
 abbrev pub unnamed_label : List ℕ → Label
 unnamed_label id = record { id = id; uid = codes "2.25.0" }
 
--- the UID that such a file-set gets: that of the digest of its directory under this label
+-- the UID that such a file-set gets, from the digest of its directory under this label
 abbrev pub derived : List ℕ → List Parts → List (List ℕ) → List ℕ
 derived id m withdrawn = uid_of_digest (sha256 (directory (unnamed_label id) m withdrawn))

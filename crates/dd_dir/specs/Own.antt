@@ -1,5 +1,5 @@
--- Which images a directory that this crate wrote lists (PS3.3 sections F.3 to F.5): the IMAGE records, each with the
--- records above it; or the first check that a record fails, depth first.
+-- Which images a directory that this crate wrote lists: the IMAGE records, each with the records above it (PS3.3
+-- sections F.3 to F.5). Or else the first check that a record fails, depth first.
 use Rattle.std.specs.Prelude.{◌≡◌, ◌≢◌, ◌⊎◌, ℕ, Bool, true, false, not, ◌&&◌, nat_le, List, [], ◌∷◌, ◌++◌}
 use Rattle.std.specs.Prelude.{length, find, Option, Some, None, is_some, option_map, Result, Ok, Err}
 use Rattle.std.specs.Prelude.{if◌then◌else◌}
@@ -62,8 +62,8 @@ is_key fields.Creator = false
 is_key fields.Digest = false
 is_key field = true
 
--- the bytes suit the field: a File ID, an image class that is taken, a transfer syntax that is known, a UID, or a key,
--- which is not empty where the record must have it (type 1, PS3.3 section F.5)
+-- The bytes suit the field: a File ID, an image class that is taken, a transfer syntax that is known, a UID, or a key.
+-- A key is not empty where the record must have it (type 1, PS3.3 section F.5).
 abbrev pub suits : Field → List ℕ → Bool
 suits fields.File v = is_file_id_form v
 suits fields.Class v = is_uid v && is_image_class v

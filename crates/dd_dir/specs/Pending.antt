@@ -22,7 +22,7 @@ AreLeft (set ∷ sets) [] = ⊥
 AreLeft (set ∷ sets) (None ∷ pending) = AreLeft sets pending
 AreLeft (set ∷ sets) (Some held ∷ pending) = (held ≡ set) × AreLeft sets pending
 
--- the starts whose sets are pending no more: those that were reached
+-- the starts that were reached: their sets are no longer pending
 abbrev pub reached : List ℕ → List (Option Elements) → Seen
 reached [] pending p = false
 reached (start ∷ starts) [] p = false

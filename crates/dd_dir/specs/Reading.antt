@@ -18,8 +18,8 @@ use Rattle.dd_dir.specs.Walks.{IsChain, AreApart, nothing, with_all, Stops}
 
 -- ---- what a file says
 
--- the offsets of the first and of the last root record, where the items start that may be records, counted from the
--- first byte of the file, their data sets, and what stands beside them
+-- The offsets of the first and of the last root record, the items that may be records, and what stands beside them. The
+-- items are known by their starts, counted from the first byte of the file, and their data sets.
 pub record Contents : Type 0 where
   pub first : ℕ
   pub last : ℕ

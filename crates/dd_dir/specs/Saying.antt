@@ -105,8 +105,8 @@ last_in set = option_and_then number_of (value_of (tag 0x0004 0x1202) set)
 abbrev pub id_in : Elements → List ℕ
 id_in set = key_of (tag 0x0004 0x1130) set
 
--- the value that names the withdrawn UIDs, without its padding, in the block of private elements of that creator (PS3.5
--- section 7.8.1): none where it is not there or does not hold bytes
+-- The value that names the withdrawn UIDs, without its padding, in the block of private elements of that creator (PS3.5
+-- section 7.8.1). None where it is not there or does not hold bytes.
 abbrev pub withdrawn_in : Elements → Option (List ℕ)
 withdrawn_in set =
     if is_creator (value_at (tag 0x0009 0x0010) set) then option_map clean_of (value_of (tag 0x0009 0x1002) set)

@@ -25,7 +25,7 @@ place_in versions v =
     record { uid = v.instance; digest = v.digest; file = file_text (file_of (tree versions) (path_of v)) }
 
 -- The bytes have one walk, and no record in it fails a check. Its images are the versions of the set in harmony, in the
--- order of their paths: each says all keys of its version and its place, and the best of them is the set in harmony.
+-- order of their paths. Each says all keys of its version and its place, and the best of them is the set in harmony.
 -- The directory names these withdrawn UIDs, which rise.
 pub record SaysItself (m : List Parts) (withdrawn : List (List ℕ)) (file : List ℕ) : Type 0 where
   pub walk : Walk

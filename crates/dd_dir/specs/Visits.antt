@@ -17,8 +17,8 @@ use Rattle.dd_dir.specs.Trees.{Node, Trees, Walk, no_trees}
 
 -- ---- what is visited
 
--- the key by which a record below those of this path is known: Patient ID, Study Instance UID, Series Instance UID,
--- Referenced SOP Instance UID in File
+-- the key by which a record below the records of this path is known: Patient ID, Study Instance UID, Series Instance
+-- UID, Referenced SOP Instance UID in File
 abbrev pub own_key : Path → Elements → List ℕ
 own_key [] set = key_of (tag 0x0010 0x0020) set
 own_key (patient ∷ []) set = key_of (tag 0x0020 0x000d) set
@@ -68,14 +68,14 @@ visit_at label versions x =
 
 -- ---- the tree realised
 
--- Following the offsets visits each of these versions exactly once, beneath its own series, study and patient, and
--- nothing else: no other instance, and no record that has none of them beneath it.
+-- Following the offsets visits each of these versions exactly once, beneath its own series, study and patient. It
+-- visits no other instance, and no record that has none of them beneath it.
 pub record VisitsEachOnce (m : List Parts) (paths : List Path) : Type 0 where
   pub once : (v : Parts) → Contains m v → length (filter (is_path (path_of v)) paths) ≡ 1
   pub others : (x : Path) → Contains paths x → (v : Parts) × Contains m v × (leads_to x (path_of v) ≡ true)
 
 -- The versions are a catalogue: of each instance one. The bytes have one walk, with the UID and the File-set ID of the
--- label. The records that it visits are the records of the tree of these versions in harmony, one by one: each has the
+-- label. The records that it visits are the records of the tree of these versions in harmony, one by one. Each has the
 -- same keys as there, its own and of the records above it, read from its bytes. Each has the same offset, offset of the
 -- record above, type and elements. All are in use, and none is left unreached.
 pub record Realises (label : Label) (m : List Parts) (file : List ℕ) : Type 0 where

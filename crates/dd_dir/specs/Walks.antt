@@ -25,8 +25,8 @@ pub record Stands (stands : ℕ → Option Elements) (p level : ℕ) (node : Nod
   pub says_so : links_in node.set ≡ Some links
   pub is : node ≡ node_of p node.set links
 
--- The trees are a chain from this offset at this level: none at the offset 0, else the record there, before a chain
--- from its lower offset a level below and a chain from its next offset.
+-- The trees are a chain from this offset at this level: none at the offset 0, else the record there. After it come a
+-- chain from its lower offset a level below, and a chain from its next offset.
 abbrev pub IsChain : (ℕ → Option Elements) → ℕ → ℕ → Trees → Type 0
 IsChain stands p level no_trees = p ≡ 0
 IsChain stands p level (tree node below after) = (links : Links) × Stands stands p level node links
@@ -55,8 +55,8 @@ AreApart seen (p ∷ ps) = (seen p ≡ false) × AreApart (with p seen) ps
 
 -- ---- where the trees end before their time
 
--- a record that stands at this offset, and what it says; or why the way does not go on: no item starts there, it was
--- reached before, it is too deep, or its elements lack one of the four values
+-- The record that stands at this offset, and what it says; or why the way does not go on. Then no item starts there, it
+-- was reached before, it is too deep, or its elements lack one of the four values.
 abbrev pub shape_at : ℕ → Elements → Option Links → Result (Elements × Links) DirFault
 shape_at p set None = Err (RecordShape p)
 shape_at p set (Some links) = Ok (set, links)

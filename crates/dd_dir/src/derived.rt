@@ -19,8 +19,8 @@ use std::alloc::Global;
 /// The UID in the directory that is hashed.
 const UNNAMED: &[u8] = b"2.25.0";
 
-/// Derives a UID from the SHA-256 of the directory of this catalogue under this ID and the UID 2.25.0. The directory
-/// is hashed as it is sent, and never held in memory. Refused as `lay_out` refuses under that label.
+/// Derives a UID from the SHA-256 of the directory of this catalogue under this ID and the UID 2.25.0. The directory is
+/// hashed while it is written, and never held in memory. Refused as `lay_out` refuses under that label.
 pub fn derived_uid(
     alloc: Global,
     catalogue: &Catalogue,

@@ -34,7 +34,7 @@ pub(crate) struct Contents<'a> {
     pub(crate) items: Vec<Item<'a>>,
 }
 
-/// Compares the class and the transfer syntax with those of a directory (PS3.10 section 8.6).
+/// Compares the class and the transfer syntax with a directory's (PS3.10 section 8.6).
 pub(crate) fn is_directory_meta(meta: &Meta) -> bool
     ensures { result ≡ is_directory_meta meta.now }
 {

@@ -21,9 +21,14 @@ use dd_part10::parse_file;
 use std::alloc::Global;
 
 /// Reads the records of a directory, joined by their offsets (PS3.3 section F.3.2, PS3.10 section 8.6). Refused, in
-/// this order: File where the bytes are no DICOM file; NotDirectory where the file is no directory; RecordShape,
-/// Dangling, Twice or TooDeep at the first offset, depth first, that breaks the trees; LastRoot where the last root
-/// reached is not the one that is named. Memory, alone or within File, where an allocation was refused.
+/// this order:
+///
+/// - File where the bytes are no DICOM file
+/// - NotDirectory where the file is no directory
+/// - RecordShape, Dangling, Twice or TooDeep at the first offset, depth first, that breaks the trees
+/// - LastRoot where the last root reached is not the one that is named
+///
+/// Memory, alone or within File, where an allocation was refused.
 pub fn read_directory<'a>(alloc: Global, bytes: &'a [u8]) -> Result<Forest<'a>, DirFault>
     ensures walk { IfOk result (λ forest. IsWalk bytes.now (walk_view forest)) }
     ensures only { (walk : Walk) → IsWalk bytes.now walk

@@ -32,8 +32,8 @@ pub fn harmony_keeps_the_directory()
         → directory label (harmonised m) withdrawn ≡ directory label m withdrawn }
 {}
 
-/// Histories in which the same versions were taken and the same instances withdrawn, in any order, with repeats and
-/// through any merges, have the same directory under one label, byte for byte.
+/// Histories in which the same versions were taken and the same instances withdrawn have the same directory under one
+/// label, byte for byte. Their order, repeats and merges do not matter.
 pub fn same_versions_same_directory()
     ensures { (label : Label) (h g : History) → SameContents (taken h) (taken g)
         → directory label (held_of (taken h)).versions (held_of (taken h)).withdrawn

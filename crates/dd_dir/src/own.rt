@@ -66,11 +66,11 @@ pub fn own_of<'a>(alloc: Global, forest: &Forest<'a>) -> Result<Own<'a>, OwnFaul
     Ok(own_of_images(alloc, named, &images)?)
 }
 
-/// Makes the catalogue of a directory that this crate wrote: the best of the versions of the images that it lists and
-/// does not withdraw, and the UIDs that it withdraws. Refused by the first check that fails: BadWithdrawal, or a
-/// check of a record, depth first. For one record ForeignRecord comes before NoDigest; RecordKey is last, at the
-/// first element in the order of tags that is not what it must be. Memory where an allocation was refused, which
-/// requires an image before the first record that fails, or a withdrawn UID.
+/// Makes the catalogue of a directory that this crate wrote. It has the best of the versions of the listed images that
+/// are not withdrawn, and the withdrawn UIDs. Refused by the first check that fails: BadWithdrawal, or a check of a
+/// record, depth first. For one record ForeignRecord comes before NoDigest; RecordKey is last, at the first element in
+/// the order of tags that is not what it must be. Memory where an allocation was refused, which requires an image
+/// before the first record that fails, or a withdrawn UID.
 pub fn catalogue_of(alloc: Global, forest: &Forest<'_>) -> Result<Catalogue, OwnFault>
     ensures { AnswersWalk (walk_view forest.now) (NamesSome (walk_view forest.now))
         (λ images catalogue. catalogue ≡ held_of (record {

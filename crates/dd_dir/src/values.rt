@@ -70,7 +70,7 @@ fn text_of(value: &[u8]) -> Option<&[u8]>
     if text.is_empty() { None } else { Some(text) }
 }
 
-/// Gives the SHA-256 of the file of an IMAGE record: None where it does not stand in the block of private elements of
+/// Gives the SHA-256 of the file of an IMAGE record. None where it does not stand in the block of private elements of
 /// its creator (PS3.5 section 7.8.1), is a sequence, or has not 32 bytes.
 pub fn digest_in(set: &DataSet<'_>) -> Option<[u8; 32]>
     ensures { result ≡ digest_in (set_view set.now) }

@@ -92,7 +92,7 @@ decides_from_is bytes result is = (
       ∙ is_file_id_form_from_IsFileId bytes h,
 )
 
--- with eight separators or more the test fails, as does that of their number
+-- with eight separators or more the test fails, as does the test of their number
 pub is_file_id_form-many : (bytes : List ℕ) (n : ℕ) → n ≡ count_by (λ byte. eqb byte 92) bytes → 8 ≤ n
     → ltb n 8 ≡ is_file_id_form bytes
 unfolding is_file_id_form

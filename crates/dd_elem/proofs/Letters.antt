@@ -92,7 +92,7 @@ none_found letters (v ∷ vs) h =
     (λ e. h v ((bytes_eq-Decides (letters_of v) letters).0 e)) in
     rw differ (none_found letters vs h)
 
--- an answer that is named by its letters, and is None only where no letters fit, is the one with these letters
+-- an answer that is named by its letters, and None only where no letters fit, is the one with these letters
 pub vr_exact : (letters : List ℕ) (r : Option Vr) → IfSome r (λ v. letters_of v ≡ letters)
     → IfNone r ((v : Vr) → letters_of v ≢ letters) → r ≡ vr_of letters
 vr_exact letters (Some v) named unnamed = sym (vr_of-letters_of v) ∙ ap vr_of named

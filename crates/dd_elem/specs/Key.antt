@@ -1,4 +1,4 @@
--- The values by which files are told apart and put in order, without their padding.
+-- The values by which files are distinguished and put in order, without their padding.
 use Rattle.std.specs.Prelude.{◌≡◌, ◌≤◌, ℕ, List, length}
 use Rattle.dd_elem.specs.Clean.{clean_of}
 

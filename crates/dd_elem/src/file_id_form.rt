@@ -8,8 +8,8 @@ const MAX_COMPONENTS: usize = 8;
 
 const MAX_COMPONENT_LENGTH: usize = 8;
 
-/// Says whether the bytes are a File ID, whoever wrote it: 1 to 8 components joined by `\`, each of 1 to 8 characters
-/// of `A` to `Z`, `0` to `9` and `_` (PS3.10 sections 8.2 and 8.5).
+/// Says whether the bytes are a File ID, whoever wrote it: 1 to 8 components joined by `\` (PS3.10 sections 8.2 and
+/// 8.5). Each has 1 to 8 characters of `A` to `Z`, `0` to `9` and `_`.
 #[tactic(auto, using(crate::proofs::FileIdForms::form_decides), unfolding(crate::specs::FileIdForm::is_file_id_form))]
 pub fn is_file_id(bytes: &[u8]) -> bool
     ensures form { IsTrue result ↔ IsFileId bytes.now }

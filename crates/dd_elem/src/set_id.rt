@@ -9,8 +9,8 @@ use thiserror::Error;
 
 const MAX_LENGTH: usize = 16;
 
-/// The ID of a file-set: 0 to 16 characters of `A` to `Z`, `0` to `9` and `_` (PS3.3 section
-/// F.3.2.1; the characters of CS in PS3.5 section 6.2, without the space).
+/// The ID of a file-set: 0 to 16 characters of `A` to `Z`, `0` to `9` and `_` (PS3.3 section F.3.2.1). These are the
+/// characters of CS in PS3.5 section 6.2, without the space.
 #[derive(Clone, Copy, Debug, PartialEq, Eq)]
 pub struct SetId {
     bytes: [u8; MAX_LENGTH],

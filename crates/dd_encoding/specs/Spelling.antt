@@ -183,8 +183,8 @@ abbrev pub max_levels : ℕ
 max_levels = 32
 
 abbrev mutual
-  -- These are elements of a set in this syntax: no tag is below the number `low`, tags rise strictly, none is of the
-  -- group of delimiters, and below them items nest in at most `levels` levels.
+  -- These are elements of a set in this syntax: no tag is below the number `low`, tags rise strictly, and none is of
+  -- the group of delimiters. Below them items nest in at most `levels` levels.
   pub AreElements : Syntax → ℕ → ℕ → Elements → Type 0
   AreElements syntax levels low no_elements = Unit {0}
   AreElements syntax levels low (element tag vr content rest) =

@@ -23,7 +23,7 @@ use Rattle.dd_engine.specs.Supply.{AllStay, OthersStay, StayBelow, EndsWith, add
 use Rattle.dd_engine.specs.Supply.{AnswersSource, AreAnswers, Holds, IsAnswer, IsOfSource}
 use Rattle.dd_engine.proofs.Settling.{none_open, other_next}
 
--- ---- the answer of a reader is that of its source
+-- ---- a reader's answer is its source's answer
 
 -- a reader with an answer for its source did not fail
 pub unfailed : (limit : ℕ) (given : List ℕ) (left : Option (List ℕ)) (old new : ℕ) (answer : Answer)

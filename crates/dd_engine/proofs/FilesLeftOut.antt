@@ -25,7 +25,7 @@ use Rattle.dd_engine.proofs.SourcePicks.{files_viewed}
 abbrev pub says : {T : Type 0} → LeftOut T → LeftAs T
 says note = (note.file, Some note.kept, note.instance)
 
--- those of these versions that are left out, where `files` are the files of all versions
+-- what notes say of the versions that are left out, where `files` are the files of all versions
 abbrev pub named : {T : Type 0} → List (T × FileKey) → List Parts → List (T × Parts) → List (LeftAs T)
 named files m versions =
     map (left_as files m) (filter (λ version. is_other (kept m version.1.instance) version.1) versions)

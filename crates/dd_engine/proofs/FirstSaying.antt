@@ -29,7 +29,7 @@ picks_as_versions listings gathered gathers =
     ∙ sym (length-map images (λ image. version_of image.1))
     ∙ sym (ap (λ (versions : List Parts). length versions) gathers.versions)
 
--- the pick of the first version that is filed so is that of its image
+-- the pick of the first version that is filed so is the place of its image
 pub first_place : (planned : Parts) (listings : List SetListing) (gathered : Gathered) (at : ℕ) (pick : Pick)
     → GathersOf [] listings gathered → IsFirstFiled planned gathered.versions.items at
     → pick ≡ get_or gathered.origins.items at pick → IsFirstSaying planned (numbered 0 listings) (Some pick)
@@ -47,7 +47,7 @@ first_place planned listings gathered at pick gathers first read = (
       let same = picks_as_versions listings gathered gathers in
       omega (arith, below, same)
 
--- the answer is None where no version is filed so
+-- where no version is filed so, None is the answer
 pub no_place : (planned : Parts) (listings : List SetListing) (gathered : Gathered)
     → GathersOf [] listings gathered → ((at : ℕ) → ¬ IsFiledAt planned gathered.versions.items at)
     → IsFirstSaying planned (numbered 0 listings) None

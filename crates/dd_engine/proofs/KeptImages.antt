@@ -72,7 +72,7 @@ all_left (v ∷ s) w none =
     let free = (free_decides uids_ordered w v.instance).1 (none v (inl refl)) in
     rw free (ap (λ l. v ∷ l) (all_left s w (λ u i. none u (inr i))))
 
--- all versions are kept, and those of all harmonies
+-- where no version is withdrawn, what is kept of all sets is in harmony what is kept of their harmonies
 pub kept_harmony : (sets : List (List Parts)) (s : List Parts) (w : List (List ℕ)) → AllAgree sets
     → best_of s ≡ best_of (together (map harmonised sets))
     → ((v : Parts) → Contains (together sets) v → ¬ Contains w v.instance)

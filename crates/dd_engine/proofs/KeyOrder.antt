@@ -1,5 +1,5 @@
--- Elements in the order of their keys: how keys compare, where a search for a key ends, and that a stable sort keeps
--- the elements of a key in their order.
+-- Elements in the order of their keys: how keys compare, and where a search for a key ends. A stable sort keeps the
+-- elements of a key in their order.
 use Rattle.std.specs.Prelude.{◌≡◌, ◌⊎◌, ◌&&◌, ◌<◌, ◌≤◌, ℕ, Bool, true, false, not, List, [], ◌∷◌, length, filter, get_or}
 use Rattle.std.specs.Cmp.{IsTotalOrder}
 use Rattle.std.specs.List.Sorted.{IsPartitionedBy, IsSorted, IsStable, ties}

@@ -1,5 +1,5 @@
 -- Sets that are the directories of catalogues: none is refused. Where the catalogues agree in pairs, what is held of
--- all that the sets list has the images of the catalogue that joins these, and in harmony it is that catalogue where no
+-- all that the sets list has the images of the catalogue that joins these. In harmony it is that catalogue where no
 -- version is withdrawn.
 use Rattle.std.specs.Prelude.{◌≡◌, ◌<◌, ℕ, zero, suc, List, [], ◌∷◌, ◌++◌, length, map, get_or, IfOk}
 use Rattle.std.specs.Prelude.{Result, Ok, Err}

@@ -129,7 +129,7 @@ module _ (known given : List (List ℕ)) (i : ℕ) (uid : List ℕ) (number : Op
       same_Some lower.0 i (sym (in_row None known (in_places given) uid ∙ rw e lower.2) ∙ found) in
       omega (arith, lower.1, one))
 
-  -- the first mention of a new UID has its place, and that of another has not
+  -- the first mention of a new UID has its place, and another's has not
   pub is_new : number ≡ first_number (map (λ one. (None, one)) known ++ in_places given) uid → number ≡ Some i
       → is_old known (take i given) uid ≡ false
   is_new first is = by_test (is_old known (take i given) uid)

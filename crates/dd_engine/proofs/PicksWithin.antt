@@ -34,7 +34,7 @@ numbered_below n at (first ∷ listings) within =
     below_append n (map (λ image. (at, image)) first.images) (numbered (suc at) listings)
     (one_below n at first.images (omega arith)) (numbered_below n (suc at) listings (omega arith))
 
--- and so are those of their places
+-- and so are the numbers of their places
 places_below : (n : ℕ) (images : List (ℕ × Listed)) → AreBelow n images
     → AllByRecursion (λ mark. mark.0.0 < n) (map (λ place. stands_at place) (places_in images))
 places_below n [] below = tt
@@ -47,7 +47,7 @@ many_own [] (first ∷ listings) own = absurd own
 many_own (set ∷ sets) [] own = absurd own
 many_own (set ∷ sets) (first ∷ listings) own = ap suc (many_own sets listings own.1)
 
--- those of all sets are below the count of sets
+-- the numbers of all sets are below the count of sets
 pub all_numbered_below : (sets : List (List ℕ)) (listings : List SetListing) → AreOwn sets listings
     → AreBelow (length sets) (numbered 0 listings)
 all_numbered_below sets listings own =

@@ -33,7 +33,7 @@ zip_same : {A C D : Type 0} (f : A → C) (g : A → D) (xs : List A)
 zip_same f g [] = refl
 zip_same f g (x ∷ xs) = ap (λ l. (f x, g x) ∷ l) (zip_same f g xs)
 
--- the file of a version is that of its place
+-- a version has the file of its place
 files_placed : (images : List (ℕ × Listed))
     → map (λ v. file_of v) (versions_in images) ≡ map (λ place. place_key place.1) (places_in images)
 files_placed [] = refl

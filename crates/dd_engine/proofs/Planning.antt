@@ -23,13 +23,13 @@ zipped : (sources : List Sourced) → zip (numbers_of sources) (versions_of sour
 zipped [] = refl
 zipped (source ∷ sources) = ap (λ rest. source ∷ rest) (zipped sources)
 
--- numbers and versions that are those of the sources
+-- the zipped numbers and versions of the sources are the sources
 pub zip_is : (sources : List Sourced) (numbers : List ℕ) (versions : List Parts) → numbers ≡ numbers_of sources
     → versions ≡ versions_of sources → zip numbers versions ≡ sources
 zip_is sources numbers versions p v =
     ap₂ (λ (a : List ℕ) (b : List Parts). zip a b) p v ∙ zipped sources
 
--- a catalogue of the best of these versions is that of the sources
+-- a catalogue of the best of these versions is the catalogue of the sources
 pub best_is : (sources : List Sourced) (versions m : List Parts) → m ≡ best_of versions
     → versions ≡ versions_of sources → m ≡ best_of_sources sources
 best_is sources versions m b v = b ∙ ap best_of v

@@ -22,8 +22,9 @@ as_engine (plans.Conflict one other) = Plan (plans.Conflict one other)
 as_engine (plans.TooMany level) = Plan (plans.TooMany level)
 as_engine plans.TooLarge = Plan plans.TooLarge
 
--- where these are the answers for the sources: the best of their versions is laid out under the label that is asked
--- for, with nothing withdrawn, the others are skipped, and each image is picked from the first source that has its file
+-- Where these are the answers for the sources, the best of their versions is laid out under the label that is asked
+-- for, with nothing withdrawn. Sources without a version are skipped, and each image is picked from the first source
+-- that has its file.
 pub record IsIndexed (choice : Choice) (limits : Limits) (answers : List Answer) (indexed : Indexed) : Type 0 where
   pub plan : let m = best_of_sources (accepted answers) in indexed.plan ≡ layout_of (label_for choice m []) m []
   pub allowed : refusal_for choice limits (best_of_sources (accepted answers)) [] ≡ None
@@ -61,9 +62,9 @@ IsNamed sources (Absent at) = at < sources
 IsNamed sources (Unread at) = at < sources
 IsNamed sources fault = Unit {0}
 
--- Indexing `sources` sources ended with a fault; the refusals were `refusals` and are `refused`, the failures of their
--- readers were `unread` and are `failed`: where memory ran out, or the versions have no place in a directory, no source
--- failed.
+-- Indexing `sources` sources ended with a fault. The refusals were `refusals` and are `refused`, and the failures of
+-- their readers were `unread` and are `failed`. Where memory ran out, or the versions have no place in a directory, no
+-- source failed.
 abbrev pub FailsBy : EngineFault → ℕ → (ℕ → ℕ) → (ℕ → ℕ) → (ℕ → ℕ) → (ℕ → ℕ) → Type 0
 FailsBy (Plan fault) sources refusals refused unread failed = AllStay refusals refused × AllStay unread failed
 FailsBy fault sources refusals refused unread failed = EndsWith fault sources refusals refused unread failed

@@ -18,7 +18,7 @@ use Rattle.dd_engine.specs.Choosing.{refusal_for}
 use Rattle.dd_engine.specs.Merging.{AreOwn, IsForeign, IsGiven, IsMerged, IsOwn, RefusesSets, SetListing, held_in, numbered}
 use Rattle.dd_engine.specs.Merging.{pick_view, place_pick, places_in, versions_in}
 
--- ---- faults as those of a merge, which has one Memory for all
+-- ---- faults as faults of a merge, which has one Memory for all
 
 abbrev pub plan_fault : PlanFault → MergeFault
 plan_fault plans.Memory = Memory
@@ -58,18 +58,18 @@ pub record ArePlaced (images : List (ℕ × Listed)) (all : List Parts) (files :
 abbrev pub Withdrawal : Type 0
 Withdrawal = Option ℕ × List ℕ
 
--- those of the sets in a row; the first set has this number
+-- the withdrawals of the sets in a row; the first set has this number
 abbrev pub withdrawals_from : ℕ → List SetListing → List Withdrawal
 withdrawals_from at [] = []
 withdrawals_from at (listing ∷ more) =
     map (λ uid. (Some at, uid)) listing.withdrawn ++ withdrawals_from (suc at) more
 
--- the given ones, and then those of all sets
+-- the given ones, and then the withdrawals of all sets
 abbrev pub withdrawals_in : List (List ℕ) → List SetListing → List Withdrawal
 withdrawals_in given listings = map (λ uid. (None, uid)) given ++ withdrawals_from 0 listings
 
--- what was gathered is of these images, their versions and where the files are, of these UIDs that are withdrawn, and
--- of sets with these counts of records that are not reached
+-- What was gathered is of these images, their versions and where the files are. It is also of these UIDs that are
+-- withdrawn, and of sets with these counts of records that are not reached.
 pub record Gathers (images : List (ℕ × Listed)) (uids : List Withdrawal) (counts : List ℕ) (gathered : Gathered)
     : Type 0 where
   pub versions : gathered.versions.items ≡ versions_in images

@@ -1,5 +1,5 @@
 -- What merging directories answers: the walks of their bytes, the images that these list and the UIDs that they
--- withdraw, what is kept of all together laid out, and for each image the file that it is copied from.
+-- withdraw. What is kept of all together is laid out, and each image has the file that it is copied from.
 use Rattle.std.specs.Prelude.{◌≡◌, ◌≢◌, ◌⊎◌, ◌<◌, ℕ, suc, List, [], ◌∷◌, ◌++◌, length, map, take, get_or, None, Some, Result, Ok}
 use Rattle.std.specs.Prelude.{Err}
 use Rattle.dd_catalogue.specs.Contents.{Contents, held_of}
@@ -104,8 +104,8 @@ filed_in listings =
 
 -- ---- the answer
 
--- where the sets list this and these UIDs are withdrawn as well: what is held then is laid out under the label that is
--- asked for, and each image is picked from the first place with its file
+-- Where the sets list this and these UIDs are withdrawn as well, what is held then is laid out under the label that is
+-- asked for. Each image is picked from the first place with its file.
 pub record IsMerged (choice : Choice) (limits : Limits) (given : List (List ℕ)) (listings : List SetListing)
     (merged : Merged) : Type 0 where
   pub plan : let h = held_in given listings in
@@ -125,8 +125,8 @@ pub record IsFirst (Fails : List ℕ → Type 0) (sets : List (List ℕ)) (at : 
 abbrev pub IsGiven : {A : Type 0} → List (List ℕ) → List A → Type 0
 IsGiven given sets = (given ≢ []) ⊎ (sets ≢ [])
 
--- why these sets are refused, whatever is done with what they list, where these UIDs are withdrawn as well: one fails,
--- and no set before it does, or memory was refused
+-- Why these sets are refused, whatever is done with what they list, where these UIDs are withdrawn as well. One fails,
+-- and no set before it does, or memory was refused.
 abbrev pub RefusesSets : List (List ℕ) → List (List ℕ) → MergeFault → Type 0
 RefusesSets given sets (Dir at fault) = IsFirst (λ set. Refuses set fault) sets at
 RefusesSets given sets (Own at fault) = IsFirst (λ set. IsForeign set fault) sets at

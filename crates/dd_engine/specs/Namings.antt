@@ -42,8 +42,8 @@ naming_apart x y tie =
 abbrev pub has_id : List ℕ → Naming → Bool
 has_id id naming = bytes_eq naming.id id
 
--- a naming in front of others that are grouped into patients: the first patient gets its name where the IDs are the
--- same, and else a new patient stands in front
+-- A naming in front of others that are grouped into patients. The first patient gets its name where the IDs are the
+-- same, and else a new patient stands in front.
 abbrev pub add_naming : Naming → List NamedPatient → List NamedPatient
 add_naming naming [] = record { id = naming.id; names = naming.name ∷ [] } ∷ []
 add_naming naming (patient ∷ patients) =

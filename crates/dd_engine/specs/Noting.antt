@@ -27,7 +27,7 @@ LeftAs T = T × Option T × List ℕ
 abbrev pub left_as : {T : Type 0} → List (T × FileKey) → List Parts → T × Parts → LeftAs T
 left_as files m version = (version.0, found_by files (kept m version.1.instance), version.1.instance)
 
--- of the versions, in the order in which they came, those of whose instance m keeps other bytes
+-- the versions of whose instance m keeps other bytes, in the order in which they came
 abbrev pub left_out : {T : Type 0} → List Parts → List (T × Parts) → List (LeftAs T)
 left_out m versions = map (left_as (files_of versions) m)
     (filter (λ version. is_other (kept m version.1.instance) version.1) versions)

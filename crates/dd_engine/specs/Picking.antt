@@ -1,5 +1,5 @@
--- Where the file of an image is: of many files, each with its place, the first that is the image's; and marks, by which
--- it is searched for in the order of files.
+-- Where the file of an image is: of many files, each with its place, the first that is the image's. By marks it is
+-- searched for in the order of files.
 use Rattle.std.specs.Prelude.{◌≡◌, ◌≢◌, ◌&&◌, Bool, true, false, ℕ, List, [], ◌∷◌, All, map, filter, Option, None, Some}
 use Rattle.std.specs.Prelude.{slice_get, if◌then◌else◌}
 use Rattle.std.specs.declared.cmp.Ordering.{Ordering}

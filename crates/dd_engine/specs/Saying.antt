@@ -20,7 +20,7 @@ pub record IsFirstFiled (planned : Parts) (versions : List Parts) (at : ℕ) : T
   pub first : (before : ℕ) → before < at → ¬ IsFiledAt planned versions before
 
 -- The pick for these images, each with the number of its set: the file of the first image whose version is filed as the
--- planned one. The answer is None exactly where no version is filed so.
+-- planned one. None is the answer exactly where no version is filed so.
 abbrev pub IsFirstSaying : Parts → List (ℕ × Listed) → Option Pick → Type 0
 IsFirstSaying planned images None = (at : ℕ) → ¬ IsFiledAt planned (versions_in images) at
 IsFirstSaying planned images (Some pick) = (at : ℕ) × IsFirstFiled planned (versions_in images) at

@@ -21,7 +21,7 @@ added n m = min (n + m) last_count
 pub record AllStay (old new : ℕ → ℕ) : Type 0 where
   pub stays : (at : ℕ) → new at ≡ old at
 
--- those of all sources but one are
+-- the counts of all sources but one are
 pub record OthersStay (at : ℕ) (old new : ℕ → ℕ) : Type 0 where
   pub stays : (other : ℕ) → other ≢ at → new other ≡ old other
 

@@ -33,8 +33,8 @@ impl Drop for Indexed {
     }
 }
 
-/// Reads all sources, each to its end or to `file_limit` bytes and one more, and plans the directory of the best of
-/// their versions under the label that is asked for. A source without a version is skipped.
+/// Reads all sources, each to its end or to `file_limit` bytes and one more. Plans the directory of the best of their
+/// versions under the label that is asked for. A source without a version is skipped.
 ///
 /// Absent and Unread name the first source that could not be opened or whose reader failed. Each reader is ended.
 pub fn index_engine<S: Supply>(

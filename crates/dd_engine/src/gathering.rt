@@ -21,7 +21,7 @@ pub(crate) struct Gathered<'a> {
     pub(crate) versions: Vec<Version>,
     /// The origin of each version.
     pub(crate) origins: Vec<Pick<'a>>,
-    /// The SOP Instance UIDs that are withdrawn: the given ones, then those of each set.
+    /// The SOP Instance UIDs that are withdrawn: the given ones, then each set's.
     pub(crate) withdrawn: Vec<Uid>,
     /// The number of the set that withdraws each of these. None for a given one.
     pub(crate) by: Vec<Option<usize>>,

@@ -18,7 +18,7 @@ use Rattle.dd_filing.specs.Sent.{IsCounted, SentTo, late_count}
 use Rattle.dd_filing.specs.declared.copying.FilingFault.{FilingFault}
 use Rattle.dd_filing.specs.declared.copying.FilingFault.TheVariants.{Memory, Unread, Unsent, Changed}
 
--- where no write failed, the counts of the tee are those of its reader
+-- where no write failed, the tee has the counts of its reader
 tee_unfailed : (limit : ℕ) (given : List ℕ) (left : Option (List ℕ)) (read_old read_new : ℕ) (was now : Option ℕ)
     (answer : Result Parts KeyFault) → was ≡ None → now ≡ None
     → AnswersReader limit given left (late_count read_old was) (late_count read_new now) answer

@@ -84,7 +84,7 @@ abbrev pub IsPlace : Slot → Found → Bool → Type 0
 IsPlace slot (found.Version version) digested = HasFile slot version digested
 IsPlace slot other digested = Unit {0}
 
--- what a place knows: bytes that were hashed as they came are not there
+-- what a place knows: bytes that were hashed during the read are not there
 abbrev pub known_by : Found → Option Sha256 → List ℕ → Ahead
 known_by found.Absent hasher kept = known.Absent
 known_by found.Unread None kept = known.File (record { bytes = kept; whole = false })

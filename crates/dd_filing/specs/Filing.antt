@@ -1,4 +1,4 @@
--- What filing an image answers: whether the copied file is that of the planned version, or why it was not copied.
+-- What filing an image answers: what the copied file is beside the planned version, or why it was not copied.
 use Rattle.std.specs.Prelude.{◌≡◌, ◌≢◌, ℕ, ◌≤◌, ◌+◌, List, length, Option, None, Some, Result, Ok, Err}
 use Rattle.dd_elem.specs.declared.device.Write.{Ghosts as WriteOf}
 use Rattle.dd_stream.specs.Sends.{GoesTo, StopsIn}
@@ -31,7 +31,7 @@ IsFileAs planned AsPlanned file = (found : Parts) × (IsVersion file found × Is
 IsFileAs planned OtherVersion file = (found : Parts) × (IsVersion file found × IsVersionAs planned OtherVersion found)
 IsFileAs planned Mislabelled file = (found : Parts) → IsVersion file found → IsVersionAs planned Mislabelled found
 
--- the bytes are a file of this version, or, where there is None, a file of no version
+-- the bytes are a file of this version, or, for None, a file of no version
 abbrev pub IsVersionOrNone : List ℕ → Option Parts → Type 0
 IsVersionOrNone file (Some version) = IsVersion file version
 IsVersionOrNone file None = (version : Parts) → ¬ IsVersion file version

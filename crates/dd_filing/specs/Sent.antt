@@ -5,7 +5,7 @@ use Rattle.dd_elem.specs.declared.counts.Counts.{Counts}
 use Rattle.dd_elem.specs.declared.device.Write.{Ghosts as WriteOf}
 use Rattle.dd_stream.specs.Sends.{Goes, Stops, counts_of}
 
--- a count of the tee: that of its reader, and the reads since a write failed
+-- a count of the tee: its reader's, and the reads since a write failed
 abbrev pub late_count : ℕ → Option ℕ → ℕ
 late_count n None = n
 late_count n (Some late) = min (n + late) last_count

@@ -14,7 +14,7 @@ use std::marker::Model;
 /// The most files that are read ahead.
 pub const FILES_AHEAD: usize = 4;
 
-/// Reads ahead those of the next `FILES_AHEAD` files that have less than 8 MiB, where memory allows.
+/// Reads ahead each of the next `FILES_AHEAD` files that has less than 8 MiB, where memory allows.
 #[derive(Drop)]
 pub struct FilesAhead {
     places: Places,
@@ -105,7 +105,7 @@ impl FilesAhead {
         self.places.held >= FILES_AHEAD
     }
 
-    /// Digests the files that were read, four side by side. Until then those that were read whole are `Unknown`.
+    /// Digests the files that were read, four side by side. Before that, a file that was read whole is `Unknown`.
     pub fn digest(&mut self)
         ensures { self.new ≡ record {
           files = self.old.files;

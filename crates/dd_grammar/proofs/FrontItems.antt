@@ -123,7 +123,7 @@ whole_fails d syntax front more =
     (set_with (item_reader d) syntax Defined (record { left = None; bytes = front ++ more })) (λ x. x.0)
     (set_fails (item_reader d) (reader_extends d) more syntax (record { left = None; bytes = front }) refl)
 
--- a refusal of a front, other than its early end, is that of all bytes that begin with it
+-- a refusal of a front, other than its early end, is the refusal of all bytes that begin with it
 pub front_fails : (syntax : Syntax) (front more : List ℕ) (e : SetFault) → read_all syntax front ≡ Err e → e ≢ Truncated
     → read_all syntax (front ++ more) ≡ Err e
 unfolding read_all

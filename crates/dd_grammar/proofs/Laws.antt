@@ -104,7 +104,7 @@ pub is_only : {X : Type 0} (view : X → Elements) (syntax : Syntax) (bs : List 
 is_only view syntax bs r given set s = subst (λ (q : Result Elements SetFault). AnswersAs is_memory view r q)
     (spelled_is_read syntax set bs s) given
 
--- a fault that was returned is that of reading
+-- a fault that was returned is the fault of reading
 fails_so : (read : Result Elements SetFault) (e : SetFault) → FailsAs is_memory e read → e ≢ Memory
     → fault_of read ≡ Some e
 fails_so read Memory h ne = absurd (ne refl)

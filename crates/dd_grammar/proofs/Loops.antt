@@ -60,7 +60,7 @@ regroup_elements : (front : List Element) (e : Element) (read : Reads Elements)
 regroup_elements front e (Ok x) = ap (λ (es : Elements). Ok (es, x.1)) (sym (elements_before-push front e x.0))
 regroup_elements front e (Err f) = refl
 
--- a step's fault is that of the whole
+-- a step's fault is the fault of the whole
 pub fails_along : {A B : Type 0} (e : SetFault) (r : Result A SetFault) (s : Result B SetFault) → FailsAs is_memory e r
     → ((f : SetFault) → r ≡ Err f → s ≡ Err f) → FailsAs is_memory e s
 fails_along e r s h k = else_then (is_memory e) h (k e)

@@ -63,7 +63,7 @@ long_of head = from_le_bytes w32 (drop 4 head)
 abbrev pub short_of : List ℕ → ℕ
 short_of head = from_le_bytes w16 (drop 6 head)
 
--- they begin with this tag: that of an item, or of one of the two ends
+-- they begin with this tag: the tag of an item, or of one of the two ends
 abbrev pub is_tag : Tag → List ℕ → Bool
 is_tag tag head = ((tag_of head).group == tag.group) && ((tag_of head).element == tag.element)
 

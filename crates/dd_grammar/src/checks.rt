@@ -59,7 +59,7 @@ pub enum Reach {
     Closed(u32),
 }
 
-/// Says whether the nearest enclosing length leaves fewer than n bytes. `left` is None where no length encloses.
+/// Says whether the nearest enclosing length leaves fewer than n bytes. `left` equals None where no length encloses.
 pub fn leaves_fewer(left: Option<u64>, n: u64) -> bool
     ensures { result ≡ leaves_fewer left n }
 {

@@ -29,7 +29,7 @@ use Rattle.dd_keys.proofs.FoundVersions.{refusal_answers}
 
 -- ---- each check of a file that was read is one of its class or keys
 
--- the fault is that of a class or a key
+-- the fault is of a class or a key
 abbrev IsOfKeys : KeyFault → Type 0
 IsOfKeys (File fault) = ⊥
 IsOfKeys Read = ⊥

@@ -1,4 +1,4 @@
--- The checks and keys by summaries are those of the file whose values they sum up.
+-- The checks and keys by summaries are the checks and keys of the file whose values they sum up.
 use Rattle.std.proofs.Common.{◌≡◌, ◌<◌, ◌≤◌, ◌⊎◌, inl, inr, ℕ, true, List, [], ◌∷◌, length, take, map, Option, Some}
 use Rattle.std.proofs.Common.{None, Result, Ok, Err}
 use Rattle.std.proofs.Common.{if◌then◌else◌, refl, sym, ap, subst, ⊎_elim, ◌∙◌, arith}

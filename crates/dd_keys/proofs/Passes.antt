@@ -1,4 +1,4 @@
--- No check of the table fails exactly where those of each row pass.
+-- No check of the table fails exactly where the checks of each row pass.
 use Rattle.std.proofs.Common.{◌≡◌, List, [], ◌∷◌, Option, Some, None, map, refl}
 use Rattle.dd_part10.specs.Reading.{FileParts}
 use Rattle.dd_keys.specs.declared.fault.KeyFault.{KeyFault}

@@ -1,5 +1,5 @@
--- The first check that a file fails as a file of a version: those of a file, then its class, then those of the table
--- from top to bottom.
+-- The first check that a file fails as a file of a version: the checks of a file, then its class, then the table from
+-- top to bottom.
 use Rattle.std.specs.Prelude.{◌≡◌, ℕ, List, [], ◌∷◌, Option, Some, None, Result, Ok, Err, length, map, nat_lt}
 use Rattle.std.specs.Prelude.{if◌then◌else◌}
 use Rattle.std.specs.Str.{bytes_eq}

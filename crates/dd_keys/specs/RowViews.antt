@@ -18,7 +18,7 @@ uid_row_view row = record { tag = row.tag; same_as = row.same_as }
 
 -- ---- the values of the rows
 
--- those of keys are keys
+-- the values of key rows are keys
 pub record AreKeys (found : RowValues) : Type 0 where
   pub charset : IsKey found.charset.now
   pub study_date : IsKey found.study_date.now

@@ -1,5 +1,5 @@
--- The checks of the table and the keys of a file, by summaries of the values of its data set: that a value is a
--- sequence, or else its first 1,024 bytes and how many it has.
+-- The checks of the table and the keys of a file, by summaries of the values of its data set. A summary says that a
+-- value is a sequence or fragments, or else its first 1,024 bytes and how many it has.
 use Rattle.std.specs.Prelude.{◌≡◌, ◌≤◌, ◌⊎◌, ℕ, List, Option, Some, None, Result, Ok, Err, map}
 use Rattle.std.specs.Prelude.{nat_lt, if◌then◌else◌}
 use Rattle.dd_elem.specs.Key.{IsKey, max_key_length}
@@ -62,7 +62,7 @@ module _ (meta : Meta) (tells : Tag → Summary) where
 -- ---- the keys
 
 module _ (tells : Tag → Summary) where
-  -- those of the value at each tag
+  -- the bytes that the summary at each tag has
   abbrev pub summary_values : Tag → Option (List ℕ)
   summary_values tag = front_of (tells tag)
 

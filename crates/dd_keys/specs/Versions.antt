@@ -1,5 +1,5 @@
--- What a file of a version is: a relation between a file's bytes and the parts of the version, its digest and the
--- keys of the records of a directory (PS3.3 section F.5).
+-- What a file of a version is: a relation between a file's bytes and the parts of the version. These are its digest and
+-- the keys of the records of a directory (PS3.3 section F.5).
 use Rattle.std.specs.Prelude.{◌≡◌, ◌≤◌, ℕ, List, length, Contains, Some}
 use Rattle.sha2.specs.Sha256.{sha256}
 use Rattle.dd_elem.specs.Key.{max_key_length}
@@ -49,8 +49,8 @@ pub record HasSeries (set : Elements) (series : SeriesKeys) : Type 0 where
   pub modality : HasKey set modality_row series.modality
   pub number : HasKey set series_number_row series.number
 
--- The bytes are a file of an image class that is taken. Its data set has the keys of the version; its class and
--- instance stand in group 0002 and again in the data set; the digest is that of all its bytes.
+-- The bytes are a file of an image class that is taken. Its data set has the keys of the version. Its class and
+-- instance stand in group 0002 and again in the data set. The digest is the SHA-256 of all its bytes.
 pub record IsVersion (file : List ℕ) (version : Parts) : Type 0 where
   pub meta : Meta
   pub set : Elements

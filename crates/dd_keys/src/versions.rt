@@ -25,9 +25,9 @@ use std::alloc::Global;
 /// Reads these bytes as a file, and gives its version: its keys without padding, its UIDs of group 0002, and its
 /// SHA-256. A key that is empty and that a directory must have is replaced by a default.
 ///
-/// Otherwise the answer is the first check that fails: those of a file (PS3.10 section 7), the class of group 0002,
-/// then those of each element in the order of tags. A refused allocation is `File` with the fault of the parse, or
-/// `Memory` after all checks.
+/// Otherwise the answer is the first check that fails: of the file (PS3.10 section 7), of the class in group 0002, then
+/// of each element in the order of tags. A refused allocation is `File` with the fault of the parse, or `Memory` after
+/// all checks.
 pub fn version_of(alloc: Global, bytes: &[u8]) -> Result<Version, KeyFault>
     ensures { Answers bytes.now result }
 {
@@ -39,7 +39,7 @@ pub fn version_of(alloc: Global, bytes: &[u8]) -> Result<Version, KeyFault>
 /// of each element that gives a key.
 ///
 /// `Read` where the reader fails and `FileTooLong` where it gives more than `limit` bytes come before every check. Else
-/// the answer is that of `version_of` for the bytes that the reader gave. It allocates for group 0002, and for the data
+/// it answers as `version_of` does for the bytes that the reader gave. It allocates for group 0002, and for the data
 /// set where an element of the table is there; a refusal of that is `File` with the fault of the read.
 pub fn ingest<R: Read>(alloc: Global, reader: &mut R, limit: u64) -> Result<Version, KeyFault>
     ensures { ReadsUpTo R.Read limit reader.old reader.new

@@ -1,4 +1,4 @@
--- How long a directory is, and that its elements are those of a set.
+-- How long a directory is, and that its elements are elements of a set.
 use Rattle.std.proofs.Common.{◌≡◌, ℕ, ◌+◌, ◌<◌, ◌≤◌, List, [], ◌∷◌, ◌++◌, length, map, Some, refl, sum_by}
 use Rattle.std.proofs.Common.{arith}
 use Rattle.std.specs.List.{All, AllByRecursion}

@@ -1,4 +1,4 @@
--- The least place below a path among versions in any order is that of the first version below it.
+-- The least place below a path among versions in any order is the place of the first version below it.
 use Rattle.std.specs.Prelude.{◌≡◌, ◌⊎◌, ◌+◌, ◌<◌, ◌≤◌, ℕ, suc, true, List, [], ◌∷◌, length, map}
 use Rattle.std.specs.Prelude.{nat_lt}
 use Rattle.std.specs.List.{flat_map}

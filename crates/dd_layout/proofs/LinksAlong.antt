@@ -1,4 +1,4 @@
--- Links from the back by levels are those of the plan.
+-- Links from the back by levels are the links of the plan.
 use Rattle.std.specs.Prelude.{◌≡◌, ℕ, ◌+◌, List, [], ◌∷◌, ◌++◌, length, map, None}
 use Rattle.std.specs.List.{AllByRecursion}
 use Rattle.std.proofs.Common.{refl, sym, ◌∙◌, ap, append_assoc}

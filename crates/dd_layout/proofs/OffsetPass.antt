@@ -9,7 +9,7 @@ use Rattle.dd_layout.specs.Plans.{record_size_at}
 use Rattle.dd_layout.specs.Records.{record_elements}
 use Rattle.dd_layout.specs.Sizes.{record_size}
 
--- the size of a record with the keys of this version, and with those of the version that it is of
+-- the size of a record with the keys of this version, and with the keys of the version that it is of
 abbrev pub weight_by : PlanRecord → Option Parts → ℕ
 weight_by row None = 0
 weight_by row (Some version) = record_size (record_elements row.level 0 0 row.file version)

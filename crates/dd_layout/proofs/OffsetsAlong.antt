@@ -1,4 +1,4 @@
--- Offsets as sums from the front are those of the plan.
+-- Offsets as sums from the front are the offsets of the plan.
 use Rattle.std.specs.Prelude.{◌≡◌, ℕ, zero, suc, ◌+◌, ◌<◌, ◌≤◌, List, [], ◌∷◌, ◌++◌, All, Option, length, map, sum_by}
 use Rattle.std.specs.Prelude.{slice_index_or}
 use Rattle.std.proofs.Common.{refl, sym, ◌∙◌, ap, subst, arith, append_assoc}
@@ -19,7 +19,7 @@ use Rattle.dd_layout.proofs.Neighbourhood.{rows_are_known}
 use Rattle.dd_layout.proofs.OffsetPass.{end_at, end_of, placed_to, weight}
 use Rattle.dd_layout.proofs.PlaceTurns.{end_at_last, end_at_most, row_now, weight_is}
 
--- the size of a row is that of its record
+-- the size of a row is the size of its record
 weight_at : (versions : List Parts) (x : Path) → weight versions (numbered_at versions x) ≡ record_size_at versions x
 weight_at versions x = refl
 

@@ -18,7 +18,7 @@ use Rattle.dd_layout.specs.Tree.{rank, ranks_along}
 use Rattle.dd_layout.proofs.NumberPass.{noted, noted_from}
 use Rattle.dd_layout.proofs.TreeRows.{AreRows, IsRow}
 
--- ---- counts of a path as counters: those of no level are 0
+-- ---- counts of a path as counters, 0 for each level that it does not reach
 
 abbrev pub filled : List ℕ → Counters
 filled [] = counters_of 0 0 0 0

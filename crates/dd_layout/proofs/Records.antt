@@ -29,7 +29,7 @@ one_record level rows one parts table is =
     ap (λ (l : Level). table_elements rows l one.next one.lower one.file parts) is
     ∙ table one.next one.lower one.file parts
 
--- its size is that of each
+-- its size is the size of each
 pub size_from_one : (level : Level) (rows : List Row) (one : PlanRecord) (parts : Parts) (size : ℕ)
     → IsTable level rows → one.level ≡ level → IsFileOf level one.file
     → size ≡ elements_size (table_elements rows one.level one.next one.lower one.file parts)
@@ -39,7 +39,7 @@ size_from_one level rows one parts size table is file_is sum next lower file fil
     ap (λ (n : ℕ). 8 + n) (sum ∙ ap elements_size (one_record level rows one parts table is)
     ∙ same_size level one.next one.lower next lower one.file file parts file_is file_too)
 
--- its short values make the elements of each those of a set
+-- by its short values the elements of each are elements of a set
 pub valid_from_one : (level : Level) (rows : List Row) (one : PlanRecord) (parts : Parts) → IsTable level rows
     → one.level ≡ level → IsFileOf level one.file
     → AllByRecursion IsShortElement (table_elements rows one.level one.next one.lower one.file parts)

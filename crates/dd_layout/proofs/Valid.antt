@@ -29,7 +29,7 @@ holds None = false
 holds (Some SQ) = false
 holds (Some _) = true
 
--- the next tag may be this one: it is not below the least, and its group comes before that of delimiters
+-- the next tag may be this one: it is not below the least, and its group comes before the group of delimiters
 abbrev may_follow : ℕ → Tag → Bool
 may_follow low t = leb low (number_of t) && (ltb t.group delimiter_group && ltb t.element (2 ^ 16))
 
@@ -139,7 +139,7 @@ same_short Image next lower next' lower' (Some r) None parts is too h = absurd t
 same_short Image next lower next' lower' (Some r) (Some s) parts is too h =
     (short_number next', (h.1.0, (short_number lower', (h.1.1.1.0, (short_file s too, h.1.1.1.1.1)))))
 
--- a record whose size is that of one with short values
+-- a record with the size of one with short values
 pub record_valid : (levels : ℕ) (level : Level) (next lower next' lower' : ℕ) (file other : Option Ranks)
     (parts : Parts) → IsFileOf level file → IsFileOf level other
     → AllByRecursion IsShortElement (record_elements level next lower file parts)

@@ -1,4 +1,4 @@
--- The records of one walk along versions in the order of their paths are those of the tree.
+-- The records of one walk along versions in the order of their paths are the records of the tree.
 use Rattle.std.specs.Prelude.{◌≡◌, ℕ, true, false, List, [], ◌∷◌, ◌++◌}
 use Rattle.std.specs.Prelude.{map, if◌then◌else◌}
 use Rattle.std.specs.List.{AllByRecursion, flat_map}

@@ -1,5 +1,5 @@
--- The elements of a record as the rows of a table give them: which values a row has in a record, and which element
--- a lent value makes (PS3.3 section F.3.2.2, PS3.5 section 6.2).
+-- The elements of a record as the rows of a table give them (PS3.3 section F.3.2.2, PS3.5 section 6.2). They say which
+-- values a row has in a record, and which element a lent value makes.
 use Rattle.std.specs.Prelude.{◌≡◌, ◌≤◌, ℕ, ◌%◌, List, [], ◌∷◌, length, map, flat_map, Option, Some, None}
 use Rattle.std.specs.Prelude.{if◌then◌else◌, ◌==◌}
 use Rattle.byteorder.specs.Endian.{little_bytes}

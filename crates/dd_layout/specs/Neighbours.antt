@@ -1,5 +1,5 @@
--- What a path of a tree has is known from the paths before and after it, by their lengths alone: so one pass along
--- them finds each offset and rank, and one from the back each link.
+-- What a path of a tree has is known from the paths before and after it, by their lengths alone. So one pass along them
+-- finds each offset and rank, and one from the back each link.
 use Rattle.std.specs.Prelude.{◌≡◌, ℕ, zero, suc, ◌+◌, ◌-◌, ◌==◌, List, [], ◌∷◌, ◌++◌, length, Option, None, Some}
 use Rattle.std.specs.Prelude.{sum_by, nat_lt, if◌then◌else◌}
 use Rattle.dd_layout.specs.Paths.{Path}
@@ -10,8 +10,8 @@ abbrev pub scan : ℕ → List Path → Option Path
 scan n [] = None
 scan n (y ∷ rest) = if nat_lt (length y) n then None else (if length y == n then Some y else scan n rest)
 
--- of each path that leads to one of a tree, how many of its siblings have come: after a path below this many others,
--- from the counts after the path before
+-- Of each path that leads to one of a tree, how many of its siblings have come. These are the counts after a path below
+-- this many others, from the counts after the path before.
 abbrev pub counted : ℕ → List ℕ → List ℕ
 counted zero [] = 1 ∷ []
 counted zero (n ∷ counts) = (n + 1) ∷ []

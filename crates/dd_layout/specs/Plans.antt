@@ -40,7 +40,7 @@ least_below (version ∷ versions) x = if leads_to x (path_of version) then 0 el
 
 -- ---- records
 
--- the File ID of an image: its ranks and those of what is above it
+-- the File ID of an image: its ranks and the ranks of what is above it
 abbrev pub file_by : List ℕ → Option Ranks
 file_by (patient ∷ study ∷ series ∷ image ∷ []) = Some (ranks_of patient study series image)
 file_by ranks = None

@@ -96,7 +96,7 @@ record_elements level next lower file parts = link_elements next lower (kind_of 
 abbrev pub record_item : List Element → Item
 record_item entries = record { length = Defined; set = elements_of entries }
 
--- they are the elements of a data set, as an item of a sequence at the root may hold: below it items nest one level
--- fewer than below the data set of a file
+-- They are the elements of a data set that an item of a sequence at the root may hold. Below it items nest one level
+-- fewer than below the data set of a file.
 abbrev pub IsRecord : List Element → Type 0
 IsRecord entries = AreElements Explicit (max_levels - 1) 0 (elements_of entries)

@@ -1,5 +1,5 @@
 -- The records of a plan before all of it is known: first each record's level and version, then its File ID, then its
--- offset; and the records of a plan moved, as another label moves them.
+-- offset. Also the records of a plan moved, as another label moves them.
 use Rattle.std.specs.Prelude.{ℕ, ◌+◌, ◌-◌, List, None, nat_lt, if◌then◌else◌}
 use Rattle.dd_version.specs.declared.parts.Parts.{Parts}
 use Rattle.dd_layout.specs.declared.label.Label.{Label}
@@ -31,8 +31,8 @@ placed_at label versions x = record (numbered_at versions x) { at = at label ver
 
 -- ---- records under another label
 
--- the offset of what stands at this one, where not `from` but `to` bytes stand before all records; what is smaller
--- than `from` is 0, which names no record and stays
+-- The offset of what stands at this one, where not `from` but `to` bytes stand before all records. What is smaller than
+-- `from` is 0, which names no record and stays.
 abbrev pub moved_offset : ℕ → ℕ → ℕ → ℕ
 moved_offset from to offset = if nat_lt offset from then 0 else (offset - from) + to
 

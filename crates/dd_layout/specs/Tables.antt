@@ -1,5 +1,5 @@
--- The tables of the elements of records, one for each level: of each element its tag, its value representation and what
--- it holds, in the order of the tags (PS3.3 section F.3.2.2 and annex F.5).
+-- The tables of the elements of records, one for each level (PS3.3 section F.3.2.2 and annex F.5). They give of each
+-- element its tag, its value representation and what it holds, in the order of the tags.
 use Rattle.std.specs.Prelude.{List, [], ◌∷◌, ◌++◌}
 use Rattle.dd_elem.specs.declared.tag.Tag.{Tag}
 use Rattle.dd_elem.specs.declared.vr.Vr.{Vr}

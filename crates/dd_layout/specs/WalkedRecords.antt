@@ -1,5 +1,6 @@
--- The records that one walk along versions in the order of their paths gives: each gives those that the one before did
--- not, and a record is of the least version among those that follow at once and are below it.
+-- The records that one walk along the versions gives, in the order of their paths. A version adds the records on its
+-- path that the version before it does not have on its own. All versions below a record follow one another here, and the
+-- record names the one with the least index.
 use Rattle.std.specs.Prelude.{◌≡◌, ℕ, suc, false, List, [], ◌∷◌, ◌++◌, map, Option, None, Some, if◌then◌else◌, nat_lt}
 use Rattle.std.specs.List.{AllByRecursion}
 use Rattle.std.specs.Ordering.{is_eq}

@@ -23,8 +23,8 @@ pub fn directory_is_as_long_as_its_records()
         ≡ first_offset label + sum_by record_size records + withdrawals_size withdrawn }
 {}
 
-/// The elements of a directory are a data set, where those of each record are one, and where the records, and the
-/// elements with the withdrawn UIDs, take fewer bytes than the mark of an undefined length.
+/// The elements of a directory are a data set on two conditions. The elements of each record are one too. The records,
+/// and the elements with the withdrawn UIDs, take fewer bytes than the mark of an undefined length.
 pub fn directory_is_a_data_set()
     ensures { (id : List ℕ) (first last : ℕ) (records : List (List Element))
         (withdrawn : List (List ℕ))

@@ -23,9 +23,14 @@ use dd_version::Version;
 use std::alloc::Global;
 
 /// Lays out the directory of these versions, in harmony, and of what is withdrawn, under this label. Refused, in this
-/// order, as Conflict with the first two versions that conflict; as TooMany where a record or the root has more
-/// children than the limits allow, with the topmost level of such children; and as TooLarge where the file has more
-/// bytes. Memory where an allocation was refused, and never where there are neither versions nor withdrawn UIDs.
+/// order:
+///
+/// - Conflict with the first two versions that conflict
+/// - TooMany where a record or the root has more children than the limits allow, with the topmost level of such
+///   children
+/// - TooLarge where the file has more bytes
+///
+/// Memory where an allocation was refused, and never where there are neither versions nor withdrawn UIDs.
 pub fn lay_out(
     alloc: Global,
     catalogue: &Catalogue,

@@ -1,5 +1,5 @@
-//! The plan of a directory: which records the versions of a catalogue have, what the elements of each hold, and where
-//! it stands in the file (PS3.3 section F.3 to F.5, PS3.10 section 8). No bytes are written here.
+//! The plan of a directory (PS3.3 section F.3 to F.5, PS3.10 section 8). It says which records the versions of a
+//! catalogue have, what the elements of each hold, and where it stands in the file. No bytes are written here.
 //!
 //! Its one promise: the records of a plan are the tree of its versions in harmony, each with the offset that its
 //! bytes have. What is refused has two versions in conflict or passes a limit, or `lay_out` answers

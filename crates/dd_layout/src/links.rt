@@ -8,7 +8,7 @@ ghost use Rattle.dd_layout.specs.Stages.{placed_at};
 use crate::level::Level;
 use crate::record::PlanRecord;
 
-/// The next siblings, while records are walked from the last to the first: for each level the offset of the first
+/// The next siblings, while records are walked from the last to the first. Each level has the offset of its first
 /// record that no record of a higher level precedes, or 0.
 #[derive(Clone, Copy)]
 struct Later {

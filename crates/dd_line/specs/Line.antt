@@ -3,11 +3,11 @@
 --   dicomdir index [OPTIONS] [--files0-from FILE] OUT SRC...
 --   dicomdir merge [OPTIONS] [--files0-from FILE] [--link] OUT SET...
 --   dicomdir withdraw [OPTIONS] OUT SET UID...
---   dicomdir check [--keys] [--strict] [--quiet] SET
---   dicomdir list [--long] SET
+--   dicomdir check [--keys] [--strict] [--quiet] [--verbose] SET
+--   dicomdir list [--long] [--verbose] SET
 --
--- OPTIONS are `[--id ID] [--uid UID] [--max-bytes N] [--strict] [--dry-run] [--quiet]`. Where `--files0-from` is given,
--- SRC or SET may be left out.
+-- OPTIONS are `[--id ID] [--uid UID] [--max-bytes N] [--strict] [--dry-run] [--quiet] [--verbose]`. Where
+-- `--files0-from` is given, SRC or SET may be left out.
 use Rattle.std.specs.Prelude.{◌≡◌, ◌≢◌, ◌++◌, [], ℕ, List, Option, Some, None, map, string_bytes, String}
 use Rattle.std.specs.Prelude.{Bool, Contains, codes, length, option_map, pos, ◌≤◌, true, false, unwrap_or}
 use Rattle.std.specs.Str.Parse.{IsNumeral, signed_digits_value, without_leading_sign}
@@ -60,6 +60,9 @@ dry_run_name = codes "dry-run"
 
 abbrev pub quiet_name : Text
 quiet_name = codes "quiet"
+
+abbrev pub verbose_name : Text
+verbose_name = codes "verbose"
 
 abbrev pub long_name : Text
 long_name = codes "long"
@@ -126,12 +129,15 @@ labelled_app name = with_rule (with_rule (with_rule (new_app name)
     (text_option uid_name))
     (number_option max_bytes_name)
 
--- one that writes it: `[--id ID] [--uid UID] [--max-bytes N] [--strict] [--dry-run] [--quiet] OUT`
+-- one that may make it: `[--id ID] [--uid UID] [--max-bytes N] [--strict] [--dry-run]`
+abbrev pub making_app : Text → App
+making_app name = with_rule (with_rule (labelled_app name) (flag strict_name)) (flag dry_run_name)
+
+-- one that writes it: those, and `[--quiet] [--verbose] OUT`
 abbrev pub writing_app : Text → App
-writing_app name = with_rule (with_rule (with_rule (with_rule (labelled_app name)
-    (flag strict_name))
-    (flag dry_run_name))
+writing_app name = with_rule (with_rule (with_rule (making_app name)
     (flag quiet_name))
+    (flag verbose_name))
     (one_path out_name)
 
 -- `index`, with the options of a command that writes, and `[--files0-from FILE] OUT [SRC]...`
@@ -155,16 +161,17 @@ withdraw_app =
 abbrev pub reading_app : Text → App
 reading_app name = with_rule (new_app name) (one_path set_name)
 
--- `check [--keys] [--strict] [--quiet] SET`
-abbrev pub check_app : App
-check_app = with_rule (with_rule (with_rule (reading_app (verb_name Check))
-    (flag keys_name))
-    (flag strict_name))
-    (flag quiet_name)
+-- `check [--keys] [--strict] SET`
+abbrev pub comparing_app : App
+comparing_app = with_rule (with_rule (reading_app (verb_name Check)) (flag keys_name)) (flag strict_name)
 
--- `list [--long] SET`
+-- `check [--keys] [--strict] [--quiet] [--verbose] SET`
+abbrev pub check_app : App
+check_app = with_rule (with_rule comparing_app (flag quiet_name)) (flag verbose_name)
+
+-- `list [--long] [--verbose] SET`
 abbrev pub list_app : App
-list_app = with_rule (reading_app (verb_name ListSet)) (flag long_name)
+list_app = with_rule (with_rule (reading_app (verb_name ListSet)) (flag long_name)) (flag verbose_name)
 
 -- the app has a version, which `--version` asks for
 abbrev pub with_version : App → App
@@ -196,6 +203,7 @@ flags = (keys_name, Check ∷ [])
     ∷ (strict_name, Check ∷ makers)
     ∷ (dry_run_name, makers)
     ∷ (quiet_name, Check ∷ makers)
+    ∷ (verbose_name, ListSet ∷ Check ∷ makers)
     ∷ (long_name, ListSet ∷ [])
     ∷ (link_name, Merge ∷ [])
     ∷ []
@@ -291,6 +299,7 @@ pub record Asks (a : Asked) (command : Text) (given : List Row) : Type 0 where
   pub strict : a.strict ≡ is_given strict_name given
   pub dry_run : a.dry_run ≡ is_given dry_run_name given
   pub quiet : a.quiet ≡ is_given quiet_name given
+  pub verbose : a.verbose ≡ is_given verbose_name given
   pub long : a.long ≡ is_given long_name given
   pub link : a.link ≡ is_given link_name given
   pub files0_from : option_map string_bytes a.files0_from ≡ first_of files0_from_name given

@@ -103,6 +103,7 @@ pub record MakesAsGiven (n : NewSet) (given : List Row) : Type 0 where
   pub strict : n.strict ≡ is_given line.strict_name given
   pub dry_run : n.dry_run ≡ is_given line.dry_run_name given
   pub quiet : n.quiet ≡ is_given line.quiet_name given
+  pub verbose : n.verbose ≡ is_given line.verbose_name given
 
 -- the sources are as the words give them, under this name and in a file of names
 pub record HasSources (name : Text) (given : List Row) (s : Sources) : Type 0 where
@@ -134,10 +135,12 @@ pub record ChecksAsGiven (x : CheckRequest) (given : List Row) : Type 0 where
   pub keys : x.keys ≡ is_given line.keys_name given
   pub strict : x.strict ≡ is_given line.strict_name given
   pub quiet : x.quiet ≡ is_given line.quiet_name given
+  pub verbose : x.verbose ≡ is_given line.verbose_name given
 
 pub record ListsAsGiven (x : ListRequest) (given : List Row) : Type 0 where
   pub set : IsOnly line.set_name given (string_bytes x.set)
   pub long : x.long ≡ is_given line.long_name given
+  pub verbose : x.verbose ≡ is_given line.verbose_name given
 
 -- the command of a request
 abbrev pub verb_of : Request → Verb
@@ -178,6 +181,7 @@ pub record AsksToMake (n : NewSet) (read : List Text) (a : Asked) : Type 0 where
   pub strict : a.strict ≡ n.strict
   pub dry_run : a.dry_run ≡ n.dry_run
   pub quiet : a.quiet ≡ n.quiet
+  pub verbose : a.verbose ≡ n.verbose
   pub long : a.long ≡ false
 
 -- the line asks to read this file-set, and nothing else but by its flags

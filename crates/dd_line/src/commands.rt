@@ -1,9 +1,10 @@
 //! The commands, as the parser gets them.
 ghost use Rattle.std.specs.Prelude.{◌≡◌, IfOk};
 ghost use Rattle.clap.specs.Words.{kind_of};
-ghost use Rattle.dd_line.specs.Line.{HasApp, HasRule, any_paths, check_app, dicomdir_app, files0_from_name, flag};
-ghost use Rattle.dd_line.specs.Line.{index_app, labelled_app, list_app, merge_app, number_option, one_path};
-ghost use Rattle.dd_line.specs.Line.{reading_app, some_paths, text_option, withdraw_app, writing_app};
+ghost use Rattle.dd_line.specs.Line.{HasApp, HasRule, any_paths, check_app, comparing_app, dicomdir_app};
+ghost use Rattle.dd_line.specs.Line.{files0_from_name, flag, index_app, labelled_app, list_app};
+ghost use Rattle.dd_line.specs.Line.{making_app, merge_app, number_option, one_path, reading_app};
+ghost use Rattle.dd_line.specs.Line.{some_paths, text_option, verbose_name, withdraw_app, writing_app};
 
 use crate::endings;
 use crate::line::Verb;
@@ -30,6 +31,8 @@ pub(crate) const STRICT: &str = "strict";
 pub(crate) const DRY_RUN: &str = "dry-run";
 
 pub(crate) const QUIET: &str = "quiet";
+
+pub(crate) const VERBOSE: &str = "verbose";
 
 pub(crate) const LONG: &str = "long";
 
@@ -67,6 +70,16 @@ fn flag<'a>(alloc: Global, name: &'a str, help: &'a str) -> Arg<'a>
         .long(name)
         .action(ArgAction::SetTrue)
         .help(help)
+}
+
+fn verbose<'a>(alloc: Global) -> Arg<'a>
+    ensures { HasRule (flag verbose_name) result }
+{
+    flag(
+        alloc,
+        VERBOSE,
+        "Shows hints where there is no terminal, too",
+    )
 }
 
 /// Makes a path that has to be given.
@@ -132,13 +145,13 @@ fn labelled_command<'a>(
         ))
 }
 
-/// Adds the options of commands that write, and the folder that they write to.
-fn writing_command<'a>(
+/// Adds what keeps a command from making something.
+fn making_command<'a>(
     alloc: Global,
     name: &'a str,
     about: &'a str,
 ) -> Result<Command<'a>, AllocError>
-    ensures { IfOk result (HasApp (writing_app name.entry.now)) }
+    ensures { IfOk result (HasApp (making_app name.entry.now)) }
 {
     labelled_command(alloc, name, about)?
         .arg(flag(
@@ -146,8 +159,20 @@ fn writing_command<'a>(
             STRICT,
             "Makes nothing where something would be left out",
         ))?
-        .arg(flag(alloc, DRY_RUN, "Makes nothing, and says what it would make"))?
-        .arg(flag(alloc, QUIET, "Shows no progress"))?
+        .arg(flag(alloc, DRY_RUN, "Makes nothing, and says what it would make"))
+}
+
+/// Adds what a command shows, and the folder that it writes to.
+fn writing_command<'a>(
+    alloc: Global,
+    name: &'a str,
+    about: &'a str,
+) -> Result<Command<'a>, AllocError>
+    ensures { IfOk result (HasApp (writing_app name.entry.now)) }
+{
+    making_command(alloc, name, about)?
+        .arg(flag(alloc, QUIET, "Shows no progress and no hints"))?
+        .arg(verbose(alloc))?
         .arg(path(
             alloc,
             OUT,
@@ -176,7 +201,11 @@ fn merge_command<'a>(alloc: Global) -> Result<Command<'a>, AllocError>
     let command = writing_command(alloc, "merge", about)?.after_help(endings::MERGE);
     command
         .arg(files0_from(alloc))?
-        .arg(flag(alloc, LINK, "Gives images second names in place of copies"))?
+        .arg(flag(
+            alloc,
+            LINK,
+            "Makes hard links to the images in place of copies",
+        ))?
         .arg(any_paths(
             alloc,
             SET,
@@ -220,8 +249,8 @@ fn reading_command<'a>(
     ))
 }
 
-fn check_command<'a>(alloc: Global) -> Result<Command<'a>, AllocError>
-    ensures { IfOk result (HasApp check_app) }
+fn comparing_command<'a>(alloc: Global) -> Result<Command<'a>, AllocError>
+    ensures { IfOk result (HasApp comparing_app) }
 {
     let about = "Checks that the files which a DICOMDIR names are there and unchanged";
     let command = reading_command(alloc, "check", about)?.after_help(endings::CHECK);
@@ -235,8 +264,15 @@ fn check_command<'a>(alloc: Global) -> Result<Command<'a>, AllocError>
             alloc,
             STRICT,
             "Also finds each file whose record has no digest to compare",
-        ))?
-        .arg(flag(alloc, QUIET, "Shows no progress"))
+        ))
+}
+
+fn check_command<'a>(alloc: Global) -> Result<Command<'a>, AllocError>
+    ensures { IfOk result (HasApp check_app) }
+{
+    comparing_command(alloc)?
+        .arg(flag(alloc, QUIET, "Shows no progress and no hints"))?
+        .arg(verbose(alloc))
 }
 
 fn list_command<'a>(alloc: Global) -> Result<Command<'a>, AllocError>
@@ -244,11 +280,13 @@ fn list_command<'a>(alloc: Global) -> Result<Command<'a>, AllocError>
 {
     let about = "Lists the records of a DICOMDIR, those of other programs too";
     let command = reading_command(alloc, "list", about)?.after_help(endings::LIST);
-    command.arg(flag(
-        alloc,
-        LONG,
-        "Also prints names, dates, times, modalities and numbers",
-    ))
+    command
+        .arg(flag(
+            alloc,
+            LONG,
+            "Also prints names, dates, times, modalities and numbers",
+        ))?
+        .arg(verbose(alloc))
 }
 
 /// Makes the error for a line without a source.

@@ -32,7 +32,7 @@ Lines of the output:
   DONE <n> instances, <b> bytes   The file-set is whole. Its DICOMDIR has <b>
                                   bytes. Compare <n> with your images: the
                                   status is 0 where sources were left out, too.
-                                  With --strict it is 1 behind SKIP and NOTE
+                                  With --strict it is 1 after SKIP and NOTE
                                   lines (98 Strict), and nothing was made.
   PLAN <n> instances, <b> bytes, <t> bytes of images
                                   With --dry-run, in place of DONE. Nothing was
@@ -60,7 +60,7 @@ Lines of the output:
                                   That set withdraws the image, which is left
                                   out. It is printed with --strict alone.
   NOTE ..                         See 'dicomdir index --help'. With --strict
-                                  the status is then 1, behind
+                                  the status is then 1, after
                                   FAULT -: 98 Strict, and nothing was made.
   DONE <n> instances, <b> bytes   The file-set is whole. Its DICOMDIR has <b>
                                   bytes.
@@ -69,11 +69,11 @@ Lines of the output:
 
 Each image is compared with its record while it is copied. The order of the
 file-sets does not matter. Run 'dicomdir check' on each of them first.
-With --link an image is not copied: its file in SET gets a second name in OUT,
+With --link an image is not copied: its file in SET gets a hard link in OUT,
 and is not read or compared with its record. Use it only for file-sets that you
 have just made yourself. Whoever changes the file by one name changes it under
-both. Where the system gives no second name, as on another file system, the
-file is copied and compared.
+both. Where the system gives no hard link, as on another file system, the file
+is copied and compared.
 --files0-from FILE adds the names that FILE holds, each ended by a zero byte.
 Where FILE is -, they are read from the standard input.
 
@@ -87,7 +87,7 @@ Lines of the output:
   NOTE -: <uid> is in no record   SET has no image with this UID. It is
                                   withdrawn all the same.
   NOTE ..                         See 'dicomdir merge --help'. With --strict
-                                  the status is then 1, behind
+                                  the status is then 1, after
                                   FAULT -: 98 Strict, and nothing was made.
   DONE <n> instances, <b> bytes   The file-set is whole. Its DICOMDIR has <b>
                                   bytes.
@@ -126,6 +126,6 @@ and ends in 'inactive' where the record is not in use. WITHDRAWN lines name the
 instances that no merge brings back. The last line counts the records that the
 offsets lead to, and the records that no offset leads to.
 
-With --long the first line is FILE-SET <id> <uid>, and these values stand
-behind ' | ': the patient's name; the date, time and description of a study;
-the modality and number of a series; the number of an image; - for none.";
+With --long the first line is FILE-SET <id> <uid>, and these values follow a
+' | ': the patient's name; the date, time and description of a study; the
+modality and number of a series; the number of an image; - for none.";

@@ -28,6 +28,7 @@ fn new_set_of(alloc: Global, given: &ArgMatches<'_>) -> Result<NewSet, AllocErro
         strict: flag_of(given, commands::STRICT),
         dry_run: flag_of(given, commands::DRY_RUN),
         quiet: flag_of(given, commands::QUIET),
+        verbose: flag_of(given, commands::VERBOSE),
     })
 }
 
@@ -100,6 +101,7 @@ fn check_request(alloc: Global, given: &ArgMatches<'_>) -> Result<Request, Alloc
         keys: flag_of(given, commands::KEYS),
         strict: flag_of(given, commands::STRICT),
         quiet: flag_of(given, commands::QUIET),
+        verbose: flag_of(given, commands::VERBOSE),
     }))
 }
 
@@ -111,6 +113,7 @@ fn list_request(alloc: Global, given: &ArgMatches<'_>) -> Result<Request, AllocE
     Ok(Request::List(ListRequest {
         set: path_of(alloc, given, commands::SET)?,
         long: flag_of(given, commands::LONG),
+        verbose: flag_of(given, commands::VERBOSE),
     }))
 }
 

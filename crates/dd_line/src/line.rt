@@ -49,8 +49,10 @@ pub struct Asked {
     pub strict: bool,
     /// `--dry-run`: the command says what it would make, and makes nothing.
     pub dry_run: bool,
-    /// `--quiet`: no progress is shown.
+    /// `--quiet`: no progress and no hints are shown.
     pub quiet: bool,
+    /// `--verbose`: hints are shown where there is no terminal, too.
+    pub verbose: bool,
     /// `--long`: `list` also prints names, dates, times, modalities and numbers.
     pub long: bool,
     /// `--link`: `merge` gives images hard links in place of copies.
@@ -118,6 +120,7 @@ fn making_line(
         strict: new_set.strict,
         dry_run: new_set.dry_run,
         quiet: new_set.quiet,
+        verbose: new_set.verbose,
         long: false,
         link: false,
         files0_from: None,
@@ -145,7 +148,7 @@ fn reading_line(alloc: Global, verb: Verb, set: String) -> Result<Asked, AllocEr
     ensures verb { IfOk result (λ asked. asked.verb ≡ verb) }
     ensures set { IfOk result (AsksToRead (string_bytes set)) }
     ensures flags { IfOk result (λ asked. (asked.keys ≡ false) × (asked.strict ≡ false)
-        × (asked.quiet ≡ false) × (asked.long ≡ false)) }
+        × (asked.quiet ≡ false) × (asked.verbose ≡ false) × (asked.long ≡ false)) }
 {
     let mut paths = Vec::new(alloc);
     paths.push(set)?;
@@ -160,6 +163,7 @@ fn reading_line(alloc: Global, verb: Verb, set: String) -> Result<Asked, AllocEr
         strict: false,
         dry_run: false,
         quiet: false,
+        verbose: false,
         long: false,
         link: false,
         files0_from: None,
@@ -190,11 +194,13 @@ fn line_of(alloc: Global, request: Request) -> Result<Asked, AllocError>
             asked.keys = check.keys;
             asked.strict = check.strict;
             asked.quiet = check.quiet;
+            asked.verbose = check.verbose;
             Ok(asked)
         }
         Request::List(list) => {
             let mut asked = reading_line(alloc, Verb::List, list.set)?;
             asked.long = list.long;
+            asked.verbose = list.verbose;
             Ok(asked)
         }
     }

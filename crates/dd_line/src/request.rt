@@ -71,8 +71,10 @@ pub struct NewSet {
     pub strict: bool,
     /// `--dry-run`: says what would be made, and makes nothing.
     pub dry_run: bool,
-    /// `--quiet`: no progress is shown.
+    /// `--quiet`: no progress and no hints are shown.
     pub quiet: bool,
+    /// `--verbose`: hints are shown where there is no terminal, too.
+    pub verbose: bool,
 }
 
 /// Lists what a new file-set is made of: one path at least, or a file of names.
@@ -122,8 +124,10 @@ pub struct CheckRequest {
     pub keys: bool,
     /// `--strict`: a file of which no digest is recorded is found, too.
     pub strict: bool,
-    /// `--quiet`: no progress is shown.
+    /// `--quiet`: no progress and no hints are shown.
     pub quiet: bool,
+    /// `--verbose`: hints are shown where there is no terminal, too.
+    pub verbose: bool,
 }
 
 /// Asks for a list of the records of a directory.
@@ -133,4 +137,6 @@ pub struct ListRequest {
     pub set: String,
     /// `--long`: names, dates, times, modalities and numbers are printed, too.
     pub long: bool,
+    /// `--verbose`: hints are shown where there is no terminal, too.
+    pub verbose: bool,
 }

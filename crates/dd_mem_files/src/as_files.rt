@@ -7,7 +7,7 @@ ghost use Rattle.dd_mem_files.specs.MemLaws.{held_grows, refusals_stay, told_con
 
 use crate::mem_files::MemFiles;
 use crate::mem_reader::MemReader;
-use dd_files::{Files, LinkFault, NotDone, NotThere, Progress, Step};
+use dd_files::{Cause, Files, Hints, LinkFault, NotDone, NotThere, Progress, Step};
 
 impl Files for MemFiles {
     type In = MemReader;
@@ -184,6 +184,25 @@ impl Progress for MemFiles {
     {}
 
     fn silence(&mut self)
+        ensures { self.new ≡ self.old }
+    {}
+}
+
+/// Has no reader and no folder, and shows nothing.
+impl Hints for MemFiles {
+    fn has_reader(&self) -> bool {
+        false
+    }
+
+    fn cause(&self) -> Cause {
+        Cause::new()
+    }
+
+    fn is_folder(&self, _path: &str) -> bool {
+        false
+    }
+
+    fn show_line(&mut self, _pieces: &[&str])
         ensures { self.new ≡ self.old }
     {}
 }

@@ -10,7 +10,7 @@ use Rattle.dd_grammar.proofs.Lists.{element_list-elements_of}
 use Rattle.dd_set.proofs.Seen.{set_view-is, element_view-is}
 use Rattle.dd_part10.specs.Reading.{is_meta_tag, is_alone}
 
--- the tests of all elements are those of what they are seen as
+-- the tests of all elements are the tests of what they are seen as
 tags_in : (es : List ElementValue) → list_all (λ e. is_meta_tag e.tag) es
     ≡ list_all (λ e. is_meta_tag e.tag) (map element_view es)
 tags_in [] = refl

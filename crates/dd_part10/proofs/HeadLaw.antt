@@ -94,7 +94,7 @@ padded_fits uid short =
     even_sum : (n m : ℕ) → m ≡ n + n % 2 → m % 2 ≡ 0
     even_sum n m e = omega arith
 
--- so is that of the version
+-- so is the value of the version
 version_fits : IsContent Explicit max_levels (Some OB) (bytes (0x00 ∷ 0x01 ∷ []))
 version_fits = (λ e. absurd cc, refl, lit< tt)
 
@@ -106,7 +106,7 @@ uid_valid : (low number : ℕ) (uid : List ℕ) (rest : Elements) → low ≤ 65
 uid_valid low number uid rest above room short others =
     (above, lit< tt, room, (λ e. absurd (omega (arith, e))), padded_fits uid short, tt, others)
 
--- the elements of the group are those of a data set
+-- the elements of the group are elements of a data set
 group_valid : (meta : Meta) → IsUid meta.class → IsUid meta.instance → IsUid meta.transfer
     → AreElements Explicit max_levels 0 (group_of meta)
 group_valid meta class instance transfer =

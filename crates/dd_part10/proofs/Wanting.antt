@@ -11,7 +11,7 @@ use Rattle.dd_part10.specs.Reading.{rest_after_prefix, after_length, syntax_in, 
 use Rattle.dd_encoding.specs.Syntaxes.{syntax_of}
 use Rattle.dd_part10.proofs.Steps.{onward, there}
 
--- the fault that was handed on is that of the answer
+-- the fault that was handed on is the fault of the answer
 pub fault_is : {X : Type 0} (r : Result X FileFault) (y e fault : FileFault) → r ≡ Err y → y ≡ e → r ≡ Err fault
     → e ≡ fault
 fault_is r y e fault is same answer = cc

@@ -29,8 +29,8 @@ abbrev pub StartsAbove : Elements → Type 0
 StartsAbove no_elements = Unit {0}
 StartsAbove (element tag vr content rest) = meta_group < tag.group
 
--- The bytes are a file: a preamble of any bytes, the prefix, the group length and group 0002 in Explicit VR, which says
--- what follows, and a data set in the transfer syntax that it names.
+-- The bytes are a file: a preamble of any bytes, the prefix, the group length, group 0002 in Explicit VR, and a data
+-- set. Group 0002 says what follows it, and names the transfer syntax of the data set.
 pub record IsFile (file : List ℕ) (meta : Meta) (set : Elements) (set_at : ℕ) : Type 0 where
   pub preamble : List ℕ
   pub group_text : List ℕ

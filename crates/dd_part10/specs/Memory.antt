@@ -41,8 +41,8 @@ pub record ScanWants (wanted : List Tag) (file : List ℕ) : Type 0 where
   pub head : HasHead file
   pub wants : HasWanted head.syntax wanted head.set
 
--- Why a file is refused of which only wanted elements are kept: by the first check that it fails; or by lack of memory,
--- for group 0002 where reading it allocates, and for the data set where a wanted element is there.
+-- Why a file is refused of which only wanted elements are kept: by the first check that it fails, or by lack of memory.
+-- Memory can run out for group 0002 where reading it allocates, and for the data set where a wanted element is there.
 abbrev pub IsRefused : List Tag → FileFault → List ℕ → Type 0
 IsRefused wanted (faults.Meta Memory) file = GroupWants file
 IsRefused wanted (faults.Set Memory) file = ScanWants wanted file

@@ -19,8 +19,8 @@ pub record IsScannedOf (wanted : List Tag) (given : List ℕ) (scanned : Scanned
   pub scans : IsScanned wanted scanned file
 
 -- The answer of reading a file of at most `limit` bytes. The reader gave `given` in it, has `left` still to come, and
--- its failures were `old` and are `new`. Where it neither failed nor gave too much, the answer is that of reading what
--- it gave.
+-- its failures were `old` and are `new`. Where it neither failed nor gave too much, the answer is what reading these
+-- bytes gives.
 abbrev pub IsFileAnswer : Result Scanned StreamFault → List Tag → ℕ → List ℕ → Option (List ℕ) → ℕ → ℕ → Type 0
 IsFileAnswer (Ok scanned) wanted limit given left old new = Ends Ended limit given left old new
     × IsScannedOf wanted given scanned

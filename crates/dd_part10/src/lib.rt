@@ -1,8 +1,8 @@
 //! DICOM files (PS3.10 section 7) in the transfer syntaxes of `dd_version`.
 //!
-//! Its one promise: what is read as a file is one, what is one is read, and a refusal names the first check that the
-//! bytes fail, or lack of memory. `read_file` makes the same checks on the bytes of a reader, and holds of the data
-//! set only what was asked for. A head that is written is the head of a file with its meta information.
+//! Its one promise: what is read as a file is one, and what is one is read. A refusal names the first check that the
+//! bytes fail, or lack of memory. `read_file` makes the same checks on the bytes of a reader, and holds of the data set
+//! only what was asked for. A head that is written is the head of a file with its meta information.
 #![tactic(auto)]
 
 mod fault;

@@ -22,9 +22,9 @@ use dd_encoding::{GROUP_AT, META_GROUP, PREAMBLE_LENGTH, PREFIX, Syntax};
 use dd_set::{DataSet, parse};
 use std::alloc::Global;
 
-/// Reads a DICOM file (PS3.10 section 7): 128 bytes of any preamble, `DICM`, the group length (0002,0000) of at most
-/// 65,536, group 0002 in Explicit VR with the UIDs of `Meta`, and a data set above group 0002 in the transfer syntax
-/// that they name. Otherwise `FileFault` names the first check that the bytes fail, or lack of memory.
+/// Reads a DICOM file (PS3.10 section 7): 128 bytes of any preamble, `DICM`, and the group length (0002,0000) of at
+/// most 65,536. Then come group 0002 in Explicit VR with the UIDs of `Meta`, and a data set above group 0002 in the
+/// transfer syntax that they name. Otherwise `FileFault` names the first check that the bytes fail, or lack of memory.
 pub fn parse_file<'a>(alloc: Global, bytes: &'a [u8]) -> Result<DicomFile<'a>, FileFault>
     ensures found { IfOk result (λ f. IsFile bytes.now f.meta (set_view f.set) f.set_at) }
     // A file is answered, unless memory runs out.

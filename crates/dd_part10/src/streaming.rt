@@ -12,8 +12,8 @@ use std::alloc::Global;
 /// Reads a DICOM file from a reader (PS3.10 section 7). Keeps its meta information, and of the data set the wanted
 /// elements alone, each once: of their bytes the first 1,024 without padding.
 ///
-/// 14 Read if the reader fails, and 15 TooLong if it gives more than `limit` bytes. Otherwise the refusals are those
-/// of `parse_file`, but the data set needs memory only where a wanted element is there. It reads on to the end before
+/// 14 Read if the reader fails, and 15 TooLong if it gives more than `limit` bytes. Otherwise it refuses as
+/// `parse_file` does, but the data set needs memory only where a wanted element is there. It reads on to the end before
 /// it answers, in at most `limit` + 1 reads.
 pub fn read_file<R: Read>(
     alloc: Global,

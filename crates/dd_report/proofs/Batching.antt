@@ -54,7 +54,7 @@ or_assoc : (a b c : Bool) → ((a || b) || c) ≡ (a || (b || c))
 or_assoc true b c = refl
 or_assoc false b c = refl
 
--- ---- texts that come to a report
+-- ---- texts that go into a report
 
 pub grows_none : (w : Report) → Grows [] w w
 grows_none w = record { goes = goes_none w.course; found = sym (or_false w.found) }

@@ -6,7 +6,7 @@ use Rattle.dd_scan.specs.Summaries.{summary_view}
 use Rattle.dd_scan.specs.declared.summary.Summary.{Summary}
 use Rattle.dd_report.specs.Agreements.{SumsUp}
 
--- a summary of bytes is that of a value of bytes
+-- a summary of bytes sums up a value of bytes
 pub some_summed : (summary : Summary) (value : Option (List ℕ)) → summary_view (Some summary) ≡ summary_of_value value
     → SumsUp summary (unwrap_or value [])
 some_summed summary None h = absurd (cc)

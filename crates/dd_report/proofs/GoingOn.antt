@@ -155,7 +155,7 @@ went_fails r t xs i d piece text a b c err within is whole so_far failed =
     (fails_front (front ++ piece) (flat_map t (drop (i + 1) xs)) a c
     (fails_next front piece a b c so_far failed)))
 
--- ---- texts as those of elements
+-- ---- texts as the texts of elements
 
 pub shown_each : (text : List ℕ) → shown text ≡ flat_map (λ (byte : ℕ). shown_byte byte ∷ []) text
 shown_each text = sym (flat_map_single shown_byte text)

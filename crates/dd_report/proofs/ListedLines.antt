@@ -30,7 +30,7 @@ lines_each form level (t ∷ trees) =
 below_is : (t : Tree) → (tree_view t).below ≡ trees_view (out-Tree t).below.items
 below_is t = search (rules, the_lemmas)
 
--- the line of a record, and then those of the records below it
+-- the line of a record, and then the lines of the records below it
 pub branch_goes : {T E : Type 0} (r : Result T E) (form : Form) (level deeper : ℕ) (t : Tree) (trees : List Tree)
     (a b c : Way) → deeper ≡ counted level → trees ≡ (out-Tree t).below.items
     → GoesOn (record_line form level (tree_view t).node) a b

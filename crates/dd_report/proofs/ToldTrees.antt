@@ -81,7 +81,7 @@ standings_each above [] = refl
 standings_each above (t ∷ trees) =
     ap (λ (xs : List Standing). tree_standings above t ++ xs) (standings_each above trees)
 
--- those of the first trees and of one more
+-- the standings of the first trees and of one more
 one_tree_more : (above : List Node) (trees : List Tree) (i : ℕ) (t : Tree) → i < length trees → t ≡ get_or trees i t
     → standings_below above (trees_view (take (i + 1) trees))
     ≡ standings_below above (trees_view (take i trees)) ++ tree_standings above t
@@ -183,7 +183,7 @@ module _ {R : Type 0} (readers : ReadOf R) (held : Option Held) (folder : List �
   abbrev Reported : {T : Type 0} → List Standing → Result T CheckFault → ℕ → ℕ → Report → Report → Type 0
   Reported all r f g a b = Reports readers held folder comparison all r f g a b
 
-  -- those of both lists
+  -- the texts of both lists
   both_told : (xs ys : List Standing) (f g h : ℕ) (one two : List ℕ) → Told xs f g one → Told ys g h two
       → Told (xs ++ ys) f h (one ++ two)
   both_told [] ys f g h one two first second =

@@ -148,7 +148,7 @@ found_in comparison standing given =
 
 -- ---- what the code holds
 
--- each inherited value is that of the nearest of these records that has the element
+-- each inherited value is from the nearest of these records that has the element
 pub record IsInherited (said : Inherited) (nodes : List Node) : Type 0 where
   pub patient_id : said.patient_id.now ≡ nearest (tag 0x0010 0x0020) nodes
   pub study : said.study.now ≡ nearest (tag 0x0020 0x000d) nodes

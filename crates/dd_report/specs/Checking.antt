@@ -66,12 +66,12 @@ is_right findings walk = is_empty findings && (walk.unreached == 0)
 abbrev pub most_read : ℕ
 most_read = 4294967295
 
--- ---- what is found in files that hold this, in a folder, by this comparison; their readers say what they gave, what
--- they have left, and how many reads they had and how many of these failed
+-- ---- What is found in files that hold this, in a folder, by this comparison. Their readers say what they gave, what
+-- they have left, how many reads they had and how many of these failed.
 
 module _ {R : Type 0} (readers : ReadOf R) (held : Option Held) (folder : List ℕ) (comparison : Comparison) where
   -- The file that a record names was opened for a reader, and this is found by reading it. What the reader gave and
-  -- what it has left are the bytes at the file's path, where these are known; it was read at most once for each byte
+  -- what it has left are the bytes at the file's path, where these are known. It was read at most once for each byte
   -- and once more.
   pub record FindsRead (standing : Standing) (finding : Option Finding) : Type 0 where
     pub path : List ℕ

@@ -45,8 +45,8 @@ flag_of node = if node.in_use then [] else codes " inactive"
 abbrev pub spaced : List ℕ → List ℕ → List ℕ → List ℕ → List (List ℕ)
 spaced first second third mark = first ∷ codes " " ∷ second ∷ codes " " ∷ third ∷ mark ∷ []
 
--- the elements by which a person recognises a record of this type: the name of the patient; the date, the time and the
--- description of the study; the modality and the number of the series; the number of the image
+-- The elements by which a person recognises a record of this type. Of a patient it is the name; of a study the date,
+-- the time and the description; of a series the modality and the number; of an image the number.
 abbrev pub known_tags : List ℕ → List Tag
 known_tags kind =
     if bytes_eq kind (kind_of Patient) then tag 0x0010 0x0010 ∷ []
@@ -117,8 +117,8 @@ set_parts id uid = codes "FILE-SET " ∷ id ∷ codes " " ∷ uid ∷ []
 abbrev pub set_line : Walk → List ℕ
 set_line walk = shown_line (set_parts (or_dash (Some walk.beside.id)) walk.beside.uid)
 
--- the long listing: the line that names the file-set, and then each line of the short one, in that of a record with
--- the values by which a person recognises it
+-- The long listing: the line that names the file-set, and then each line of the short one. The line of a record also
+-- has the values by which a person recognises it.
 abbrev pub long_listing : Walk → List ℕ
 long_listing walk = set_line walk ++ lines_in Long walk
 

@@ -9,7 +9,7 @@ use Rattle.dd_part10.specs.declared.fault.FileFault.{FileFault}
 use Rattle.dd_part10.specs.declared.fault.FileFault.TheVariants.{NotPart10, GroupLength, MetaMissing, MetaUid}
 use Rattle.dd_part10.specs.declared.fault.FileFault.TheVariants.{OtherSyntax, Meta, Set}
 
--- those of a fault of a data set
+-- the words of a fault of a data set
 abbrev pub set_words : SetFault → List ℕ
 set_words Truncated = codes "1 Truncated"
 set_words Order = codes "2 Order"
@@ -23,7 +23,7 @@ set_words Overrun = codes "9 Overrun"
 set_words TooDeep = codes "10 TooDeep"
 set_words Memory = codes "91 Memory"
 
--- those of a fault of a file
+-- the words of a fault of a file
 abbrev pub file_words : FileFault → List ℕ
 file_words NotPart10 = codes "21 NotPart10"
 file_words GroupLength = codes "22 GroupLength"

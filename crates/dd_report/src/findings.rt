@@ -39,7 +39,7 @@ pub enum Finding {
     Mislabelled(Tag),
     /// It is no DICOM file, for this reason.
     NoFile(FileFault),
-    /// The record has no digest to compare with that of the file.
+    /// The record has no digest to compare with the file's.
     NoDigest,
 }
 
@@ -62,8 +62,8 @@ pub(crate) struct Expected {
 /// Judges the file that a record names. Finds nothing where the record is not in use or names no file. `file`
 /// reads it, where it could be opened; it may have `limit` bytes.
 ///
-/// It is read once, to its end, to a failure or to `limit` bytes and one more, whether the record has a
-/// digest or not; where its name is no File ID it is not read. Allocates nothing.
+/// It is read once, to its end, to a failure or to `limit` bytes and one more, whether the record has a digest or not.
+/// Where its name is no File ID it is not read. Allocates nothing.
 pub fn finding_of<R: Read>(tree: &Tree<'_>, file: Option<&mut R>, limit: u64) -> Option<Finding>
     ensures unnamed { ¬ NamesFile (tree_view tree.now).node → result ≡ None }
     ensures misnamed { NamesFile (tree_view tree.now).node

@@ -23,10 +23,10 @@ use dd_set::DataSet;
 use itoa::Buffer;
 use std::fmt;
 
-/// Lists a directory: a line for each record, depth first, one for each piece of the value that names the
-/// withdrawn SOP Instance UIDs, and how many records there are. In the long form a first line has the File-set ID and
-/// the UID of the directory, and the line of each PATIENT, STUDY, SERIES and IMAGE record also has the values by which
-/// a person recognises it. It fails only where the output does, and takes no memory.
+/// Lists a directory: a line for each record, depth first, one for each piece of the value that names the withdrawn SOP
+/// Instance UIDs, and how many records there are. In the long form a first line has the File-set ID and the UID of the
+/// directory. Then the line of each PATIENT, STUDY, SERIES and IMAGE record also has the values by which a person
+/// recognises it. It fails only where the output does, and takes no memory.
 pub fn list_records<W: Write>(forest: &Forest<'_>, form: Form, to: &mut W) -> fmt::Result
     ensures sent { OnOk result
         (TakesText W.Write to.old to.new (listing form (walk_view forest.now))) }

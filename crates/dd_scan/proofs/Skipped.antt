@@ -18,7 +18,7 @@ use Rattle.dd_grammar.proofs.Loops.{with_items, with_elements, fails_along, item
 use Rattle.dd_grammar.proofs.Loops.{elements_more, elements_done, elements_fail}
 use Rattle.dd_grammar.proofs.ReadingOn.{element_found, item_found}
 
--- a value that is let go is let go with what it is put into
+-- a value that is skipped is skipped with what it is put into
 pub skips_along : {X Y Z : Type 0} (view : X → Y) (r : Result Z SetFault) (read : Reads X) (end : At)
     → Skips r read end → Skips r (read >>= λ x. Ok (view x.0, x.1)) end
 skips_along view (Ok z) read end h = (view h.0, rw h.1 refl)

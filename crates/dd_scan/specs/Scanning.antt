@@ -22,8 +22,8 @@ pub record IsScanOf (syntax : Syntax) (wanted : List Tag) (given : List ℕ) (sc
   pub scans : IsScan wanted scan set
 
 -- The answer of a scan of at most `limit` bytes. The reader gave `given` in it, has `left` still to come, and its
--- failures were `old` and are `new`. Where it neither failed nor gave too much, the answer is that of reading what it
--- gave, or lack of memory where a wanted element is in it.
+-- failures were `old` and are `new`. Where it neither failed nor gave too much, the answer is what reading these bytes
+-- gives, or lack of memory where a wanted element is in them.
 abbrev pub IsScanAnswer : Result Scan ScanFault → Syntax → List Tag → ℕ → List ℕ → Option (List ℕ) → ℕ → ℕ → Type 0
 IsScanAnswer (Ok scan) syntax wanted limit given left old new = Ends Ended limit given left old new
     × IsScanOf syntax wanted given scan

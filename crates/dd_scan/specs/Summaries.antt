@@ -1,4 +1,4 @@
--- Summaries of values as code has them, and that of a value by what a scan found (PS3.5 section 6.2).
+-- Summaries of values as code has them, and the summary of a value by what a scan found (PS3.5 section 6.2).
 use Rattle.std.specs.Prelude.{List, [], Option, Some, None, find}
 use Rattle.dd_elem.specs.declared.tag.Tag.{Tag}
 use Rattle.dd_grammar.specs.Lists.{same_tag}
@@ -17,7 +17,7 @@ bytes_or_sequence sequence = sequence
 bytes_or_sequence fragments = sequence
 bytes_or_sequence (cleaned front size) = cleaned front size
 
--- the summary of the value of an element, or that of no bytes where there is no element
+-- the summary of the value of an element, or of no bytes where there is no element
 abbrev pub summary_of_found : Option Found → Summary
 summary_of_found None = cleaned [] 0
 summary_of_found (Some found) = bytes_or_sequence (found_summary found.value)

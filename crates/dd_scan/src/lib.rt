@@ -1,9 +1,8 @@
 //! Data sets read from a stream with every check of the grammar, of which a summary of the wanted elements is kept
 //! (PS3.5 sections 6.2 and 7, annex A).
 //!
-//! Its one promise: a scan answers what reading all that a reader gave answers, by the same set or the same first
-//! check that fails, and holds only what was asked for. It needs memory only where an element that was asked for is
-//! there.
+//! Its one promise: a scan answers as reading all that a reader gave would: of the same set, or by the same first check
+//! that fails. It holds only what was asked for, and needs memory only where such an element is there.
 #![tactic(auto)]
 
 mod cleaning;

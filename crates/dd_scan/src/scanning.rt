@@ -13,8 +13,8 @@ use std::alloc::Global;
 /// Scans a data set from a reader (PS3.5 section 7). Keeps its first tag, and the wanted elements of the set itself,
 /// each once: of their bytes the first 1,024 without padding.
 ///
-/// 14 Read if the reader fails, and 15 TooLong if it gives more than `limit` bytes. Otherwise the refusals are those
-/// of `parse`, but memory is needed only after a wanted element that was read whole. It reads on to the end before it
+/// 14 Read if the reader fails, and 15 TooLong if it gives more than `limit` bytes. Otherwise it refuses as `parse`
+/// does, but memory is needed only after a wanted element that was read whole. It reads on to the end before it
 /// answers, in at most `limit` + 1 reads.
 pub fn scan<R: Read>(
     alloc: Global,

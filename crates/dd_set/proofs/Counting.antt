@@ -24,7 +24,7 @@ with_element e rest = element e.tag e.vr e.content rest
 abbrev pub with_item : Item → Items → Items
 with_item p rest = item p.length p.set rest
 
--- their bytes are those of the first and then those of the rest
+-- their bytes are the bytes of the first and then of the rest
 pub element_first : (e : Element) (rest : Elements) → elements_text (with_element e rest) ≡ element_text e
     ++ elements_text rest
 element_first e rest = sym (append_assoc (tag_text e.tag) (content_text e.vr e.content) (elements_text rest))

@@ -70,7 +70,7 @@ set_text s es is = ap (λ (xs : List Element). elements_text (elements_view xs))
 
 -- ---- at a place of a list
 
--- the text of what is left of a list of elements begins with that of the next
+-- the text of what is left of a list of elements begins with the text of the next
 pub element_seen_at : (es : List Element) (i : ℕ) (e : Element) → i < length es → e ≡ get_or es i e
     → elements_text (elements_view (drop i es)) ≡ element_text (element_view e)
     ++ elements_text (elements_view (drop (i + 1) es))
@@ -101,7 +101,7 @@ part_valid_at syntax levels parts i p within is valid =
 
 -- ---- fragments
 
--- the text of what is left of a list of fragments begins with that of the next
+-- the text of what is left of a list of fragments begins with the text of the next
 pub piece_at : (fs : List (Bor (List ℕ))) (i : ℕ) (d : Bor (List ℕ)) → i < length fs
     → fragments_text (pieces (drop i fs)) ≡ fragment_text (get_or fs i d).now
     ++ fragments_text (pieces (drop (i + 1) fs))

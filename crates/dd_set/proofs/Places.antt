@@ -161,7 +161,7 @@ seek_more syntax levels wanted first all at es i e size within is so other size_
     subst (λ (n : ℕ). Seeking syntax levels wanted first all (at + n) rest) (sym size_is)
     (seeking_element syntax levels wanted first all at (element_view e) rest here tag)
 
--- the next element is the one: its places are those of the set, with any bytes of the right lengths before them
+-- the next element is the one: its places are the set's, with any bytes of the right lengths before them
 pub seek_found : (syntax : Syntax) (levels : ℕ) (wanted : Tag) (first : ℕ) (all : Elements) (at : ℕ)
     (es : List ElementValue)
     (i : ℕ) (e : ElementValue) (before front : List ℕ) → i < length es → e ≡ get_or es i e

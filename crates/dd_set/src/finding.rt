@@ -17,8 +17,8 @@ impl<'a> DataSet<'a> {
     }
 }
 
-/// Gives the value of the first element with this tag, without its padding: no bytes where there is no such element,
-/// and None where it is a sequence or has fragments.
+/// Gives the value of the first element with this tag, without its padding. It gives no bytes where there is no such
+/// element, and None for a sequence or fragments.
 pub fn value_at<'a>(set: &DataSet<'a>, tag: Tag) -> Option<&'a [u8]>
     ensures { option_copied result ≡ value_at tag (set_view set.now) }
 {

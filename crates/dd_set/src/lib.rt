@@ -1,11 +1,11 @@
-//! Data sets: their elements, sequences, items and fragments, read from bytes and written to them in the little
-//! endian syntaxes, with native and with encapsulated pixel data (PS3.5 sections 6, 7 and 10, annex A). What
+//! Data sets: their elements, sequences, items and fragments, with native and with encapsulated pixel data (PS3.5
+//! sections 6, 7 and 10, annex A). They are read from bytes and written to them in the little endian syntaxes. What
 //! fragments hold is not looked at.
 //!
-//! Its one promise: what is read is the one set that the bytes spell, what is refused spells none and is refused by
-//! the first check that it fails, and what is written is the spelling. Only where an allocation is refused, after the
-//! first item or element, is the answer lack of memory instead. The checks are those of `dd_grammar`, which `dd_scan`
-//! makes on the bytes of a reader.
+//! Its one promise: what is read is the one set that the bytes spell, and what is written is the spelling. What is
+//! refused spells none, and is refused by the first check that it fails. Only where an allocation is refused, after the
+//! first item or element, is the answer lack of memory instead. `dd_grammar` has the checks, which `dd_scan` makes on
+//! the bytes of a reader.
 #![tactic(auto)]
 
 mod cursor;

@@ -20,9 +20,9 @@ use dd_grammar::{
 impl DataSet<'_> {
     ghost use Rattle.dd_encoding.specs.Spelling.{Spells};
 
-    /// Counts the bytes that spell the set. None where tags do not rise, a value representation is missing or stands
-    /// where none may, a length is odd or has no room in its header, items nest deeper than 32 levels, or there would
-    /// be 2^64 bytes or more (PS3.5 sections 7.1 and 7.5).
+    /// Counts the bytes that spell the set (PS3.5 sections 7.1 and 7.5). None where tags do not rise, or a value
+    /// representation is missing or stands where none may. None also where a length is odd or has no room in its
+    /// header, items nest deeper than 32 levels, or there would be 2^64 bytes or more.
     pub fn size(&self, syntax: Syntax) -> Option<u64>
         ensures { let text = elements_text (set_view self.now)
             in SomeIff result (Spells syntax (set_view self.now) text) (length text) }

@@ -19,7 +19,7 @@ use dd_encoding::{ITEM_END, Length, SEQUENCE_END, Syntax, item_header, plain_hea
 use dd_grammar::{MAX_LEVELS, UNDEFINED_LENGTH};
 use dd_stream::{WriteFault, send};
 
-/// Sends the bytes that spell the set, and answers how many they are. 13 NotWritable exactly where `size` is None;
+/// Sends the bytes that spell the set, and answers how many they are. 13 NotWritable exactly where `size` gives None;
 /// nothing is sent then. 12 Write where the writer failed, with how many of the bytes went before.
 pub fn write_set<W: Write>(
     set: &DataSet<'_>,

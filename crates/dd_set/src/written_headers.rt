@@ -9,7 +9,7 @@ use dd_elem::Vr;
 use dd_encoding::{HEADER_SIZE, LONG_HEADER_SIZE, Syntax, TAG_SIZE};
 use dd_grammar::{UNDEFINED_LENGTH, names_vr};
 
-/// Counts the bytes of a plain header: that of an item or a delimiter.
+/// Counts the bytes of a plain header, which an item or a delimiter has.
 pub const PLAIN_SIZE: u64 = HEADER_SIZE as u64;
 
 /// Says whether bytes may stand under this value representation.

@@ -53,8 +53,8 @@ module _ {R : Type 0} (reader : ReadOf R) where
     turned first last m.given p.left r.left p.end r.end end opened shut m.turns,
   )
 
--- A stretch of which this is said whatever comes after it, and then one to the end of the stream: what is said of all
--- that the reader gave, and how it ended, are the answer.
+-- A stretch of which this is said whatever comes after it, and then one to the end of the stream. The answer is what is
+-- said of all that the reader gave, and how it ended.
 pub reads_to_end : {R : Type 0} (reader : ReadOf R) (first then last : R) (p q r : Position) (xs ys : List ℕ)
     (end : End)
     (said : List ℕ → Type 0) (answers : List ℕ → Option (List ℕ) → ℕ → ℕ → Type 0)

@@ -1,5 +1,5 @@
--- What is said of a feed, whose bytes come one after the other: `moves` says which bytes were taken between two of its
--- states, `tells` which bytes may be all that are still to come.
+-- What is said of a feed, whose bytes come one after the other. `moves` says which bytes were taken between two of its
+-- states. `tells` says which bytes may be all that are still to come.
 use Rattle.std.specs.Prelude.{◌≡◌, ℕ, List, [], ◌++◌}
 
 -- nothing is to come

@@ -1,5 +1,5 @@
--- What sending bytes does to a writer, of which are known before and afterwards: the bytes that it holds, where it
--- tells them, paired with what no write changes; and its counts. It is called at most once for each byte of the text.
+-- What sending bytes does to a writer, which is called at most once for each byte of the text. Known of it before and
+-- afterwards are the bytes that it holds, where it tells them, paired with what no write changes; and its counts.
 use Rattle.std.specs.Prelude.{◌≡◌, ℕ, ◌+◌, ◌<◌, ◌≤◌, List, ◌++◌, length, Option, Result, IfOk, IfErr}
 use Rattle.std.specs.Io.KnownBytes.{Appends}
 use Rattle.dd_elem.specs.Device.{HasFailed}

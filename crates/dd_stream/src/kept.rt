@@ -66,7 +66,7 @@ impl Kept {
         n
     }
 
-    /// Replaces the bytes by those of one more read. None where the reader fails.
+    /// Replaces the bytes by the bytes of one more read. None where the reader fails.
     pub(crate) fn refill<R: Read>(&mut self, reader: &mut R, most: usize) -> Option<usize>
         requires some { 0 < most }
         requires few { most ≤ PIECE }

@@ -1,7 +1,7 @@
 //! Gives a reader's bytes as a feed, and sends bytes to a writer.
 //!
-//! Its promise: the bytes taken from a stream are those that its reader gave, in order and each once. What is sent goes
-//! whole, or the fault counts the bytes that went.
+//! Its promise: the bytes taken from a stream are its reader's, in order and each once. What is sent is written whole,
+//! or the fault says how many bytes were written.
 #![tactic(auto)]
 
 mod end;

@@ -1,4 +1,4 @@
-//! Refuses the allocations of a call in turn, if the library of refusals/refuse.c is loaded.
+//! Refuses the allocations of a call in turn, if the library of tests/faults/refuse.c is loaded.
 
 use std::alloc::Global;
 use std::ops::RangeInclusive;

@@ -36,7 +36,7 @@ impl<'a> Model for ByteSource<'a> {
 
 impl<'a> ByteSource<'a> {
     /// Makes a reader of at most `piece` bytes per read; 0 counts as 1. With `fails` it fails for good after that
-    /// number of bytes, before it comes to the end.
+    /// number of bytes, before it ends.
     pub fn new(bytes: &'a [u8], piece: u64, fails: Option<u64>) -> Self
         ensures { result ≡ record {
           given = [];

@@ -1,5 +1,5 @@
 //! What all tests share: the bytes of files, known from the DICOM standard; versions and catalogues by letters; cases
-//! as lines of text; and readers and writers over memory that fail where a test wants it.
+//! as lines of text. Also readers and writers over memory that fail where a test wants it.
 //!
 //! Each test crate names it, and otherwise only the crates that it tests.
 #![tactic(auto)]

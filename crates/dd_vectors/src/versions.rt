@@ -6,10 +6,14 @@ use dd_version::{Parts, PatientKeys, SeriesKeys, StudyKeys, Version};
 use std::alloc::Global;
 use std::test::Fail;
 
-/// For each letter the byte that its digest repeats, the study description, the instance, and other changes to V1: four
-/// images of two patients; one of the first's series in another study; one of the first's study with another patient;
-/// one of a series that comes before the first's; three whose numbers have another order than their instances; and
-/// versions of the first two with other digests, descriptions (one of more than 22 bytes) and times.
+/// For each letter the byte that its digest repeats, the study description, the instance, and other changes to V1:
+///
+/// - `1` to `4`: two patients
+/// - `5`: the first's series in another study
+/// - `6`: the first's study with another patient
+/// - `7`: a series that comes before the first's
+/// - `p` to `r`: numbers in another order than their instances
+/// - others: the first two with other digests, descriptions (one of more than 22 bytes) and times
 const IMAGES: &str = "\
 1 170 ' '1.2.3.4.5~
 2 170 ' '1.2.3.4.6~

@@ -40,7 +40,7 @@ empty_behind first paths (suc at) is =
     let within = is.within in
     inr (at, record { within = omega arith; empty = is.empty })
 
--- the folder that was looked at is that of the request
+-- the folder that was looked at is the request's
 pub folder_seen : (r : Request) (seen : Option (Bor NewSet)) → new_set_of r ≡ option_map (λ s. s.now) seen
     → IfSome seen (λ s. ¬ (string_bytes s.now.out ≡ [])) → IfSome (new_set_of r) (λ n. ¬ (string_bytes n.out ≡ []))
 folder_seen r None is folder = rw is tt

@@ -71,7 +71,7 @@ directory_after (first ∷ folders) [] folder bytes files all one = absurd all
 directory_after (first ∷ folders) (set ∷ sets) folder bytes files all one =
     (all.0, directory_after folders sets folder bytes files all.1 one)
 
--- that of one more folder
+-- the directory of one more folder
 pub directory_more : (folders sets : List (List ℕ)) (i : ℕ) (bytes : List ℕ) (files : Option Held)
     → i < length folders → AreDirectories (take i folders) sets files → HasDirectory (get_or folders i []) bytes files
     → AreDirectories (take (i + 1) folders) (sets ++ bytes ∷ []) files

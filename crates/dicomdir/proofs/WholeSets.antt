@@ -20,7 +20,7 @@ use Rattle.dd_layout.specs.Plans.{record_at, records_of, tree}
 use Rattle.dd_version.specs.declared.parts.Parts.{Parts}
 use Rattle.dicomdir.specs.Made.{IsWhole}
 
--- ---- the records with a file are those of images
+-- ---- the records with a file are the records of images
 
 of_image : (label : Label) (versions : List Parts) (x : Path) → HasLevel x
     → is_some (record_at label versions x).file ≡ is_image (record_at label versions x)

@@ -12,8 +12,8 @@ use Rattle.dicomdir.specs.declared.refusal.Refusal.{Refusal}
 use Rattle.dicomdir.specs.declared.refusal.Subject.{Subject}
 use Rattle.dicomdir.specs.Refusal.{IsMemory, IsSetFile}
 
--- By this answer the subject is a file of the set whose record is the first to say what the plan says, or of the set of
--- the pick where no record does or a set can't be read again. Where memory was wanted, no subject is named.
+-- By this answer the subject is a file of the set whose record is the first to say what the plan says. Where no record
+-- does or a set can't be read again, it is a file of the pick's set. Where memory ran out, none is named.
 abbrev pub IsNamedBy : Result (Option Pick) MergeFault → Pick → Subject → Type 0
 IsNamedBy (Ok (Some first)) pick subject = IsSetFile first.set subject
 IsNamedBy (Ok None) pick subject = IsSetFile pick.set subject
@@ -31,8 +31,8 @@ pub record IsChanged (Names : Subject → Type 0) (refusal : Refusal) : Type 0 w
   pub fault : refusal.fault ≡ Changed
   pub subject : Names refusal.subject
 
--- The refusal of a copy, by what it is beside the planned version: where it is of another version, the file that it was
--- copied from is named; where it is mislabelled, the claimant, which takes memory to find.
+-- The refusal of a copy, by what it is beside the planned version. Where it is of another version, the file that it was
+-- copied from is named. Where it is mislabelled, the claimant is named, which takes memory to find.
 abbrev pub IsRefusedAs : Filed → (Subject → Type 0) → (Subject → Type 0) → Refusal → Type 0
 IsRefusedAs AsPlanned Origin Claimant refusal = ⊥
 IsRefusedAs OtherVersion Origin Claimant refusal = IsChanged Origin refusal

@@ -1,5 +1,5 @@
--- What the words of a line say of the making of a file-set: whether it is only planned, whether images get second
--- names, and in which folder it is made.
+-- What the words of a line say of the making of a file-set: whether it is only planned, whether images get hard links,
+-- and in which folder it is made.
 use Rattle.std.specs.Prelude.{◌≡◌, List, [], Option, None, Some, slice_index_or, true}
 use Rattle.clap.specs.Takes.{is_given}
 use Rattle.clap.specs.Words.{Row, Text}

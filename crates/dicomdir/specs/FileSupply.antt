@@ -8,7 +8,7 @@ use Rattle.dicomdir.specs.declared.source_counts.SourceCounts.{SourceCounts}
 abbrev pub contents_by : Option Held → List (List ℕ) → ℕ → Option (List ℕ)
 contents_by held paths at = option_and_then (λ files. option_and_then files.bytes_at (slice_get paths at)) held
 
--- those of a source that was not opened yet
+-- the counts of a source that was not opened yet
 abbrev pub no_counts : SourceCounts
 no_counts = record { refusals = 0; reads = 0; failures = 0; lent = 0; bytes = 0 }
 

@@ -12,6 +12,7 @@ pub mod Mistakes
 pub mod Names
 pub mod Noted
 pub mod Refusal
+pub mod Sum
 pub mod Words
 pub use Rattle.dd_engine.specs.Choosing
 pub use Rattle.dd_engine.specs.Indexed

@@ -16,7 +16,7 @@ IsBadLine fault = ((bad : BadUid) × (fault ≡ Uid bad)) ⊎ ((bad : BadSetId) 
 abbrev pub IsMemory : Refusal → Type 0
 IsMemory refusal = refusal ≡ record { subject = subject.General; fault = Memory }
 
--- a source was left out of a run with `--strict`, which concerns no file
+-- a line SKIP or NOTE was printed in a run with `--strict`, which concerns no file
 abbrev pub IsStrict : Refusal → Type 0
 IsStrict refusal = refusal ≡ record { subject = subject.General; fault = Strict }
 

@@ -17,18 +17,42 @@ use crate::note_lines::{
 use crate::origins::SourceFiles;
 use crate::refusal::{ProgramFault, Refusal, Subject};
 use crate::source_counts::SourceCounts;
+use crate::sum::{Sum, show_sum};
 use dd_elem::{Memory, Write};
 use dd_engine::{EngineFault, NotedFault, NotedIndex, index_with_notes};
-use dd_files::{Files, Progress, SOURCE_LIMIT, Step};
+use dd_files::{Files, Hints, Progress, SOURCE_LIMIT, Step};
 use dd_layout::Limits;
 use std::alloc::Global;
 use std::fmt;
 
 /// Runs `index`: reads all sources, prints what is skipped and what is noted, and makes the file-set of the others, or
 /// prints what would be made.
-pub(crate) fn run_index<F: Files + Progress, O: Write>(
+pub(crate) fn run_index<F: Files + Progress + Hints, O: Write>(
     making: Making<'_>,
     sources: &[String],
+    files: &mut F,
+    out: &mut O,
+) -> Result<u8, Refusal>
+    ensures refusal { IfErr result (IsOfWork (length sources.now)) }
+    ensures status { IfOk result (λ status. status ≤ 1) }
+    ensures dry { making.entry.dry_run ≡ true → F.held files.new ≡ F.held files.old }
+    ensures made { making.entry.dry_run ≡ false
+        → DoneIndexes result making.entry.names.now.choice making.entry.max_bytes
+        (words_of sources.now) making.entry.folder.now (F.held files.old) (F.held files.new) }
+{
+    let mut sum = Sum::new();
+    let done = index_sources(making, sources, &mut sum, files, out);
+    if making.explains && matches!(done, Ok(0)) {
+        show_sum(&sum, files);
+    }
+    done
+}
+
+/// Does so, and counts what becomes of the sources.
+fn index_sources<F: Files + Progress, O: Write>(
+    making: Making<'_>,
+    sources: &[String],
+    sum: &mut Sum,
     files: &mut F,
     out: &mut O,
 ) -> Result<u8, Refusal>
@@ -50,6 +74,7 @@ pub(crate) fn run_index<F: Files + Progress, O: Write>(
     if tell_noted(&noted, sources, out).is_err() {
         return Ok(1);
     }
+    *sum = Sum::of(&noted, sources.len());
     let NotedIndex { indexed, notes } = &noted;
     let is_noted = !indexed.skipped.is_empty() || has_notes(notes);
     refuse_noted(making.strict, is_noted)?;

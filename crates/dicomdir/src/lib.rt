@@ -9,6 +9,7 @@ mod counted_reader;
 mod empty_paths;
 mod file_set;
 mod file_supply;
+mod hints;
 mod image_path;
 mod images;
 mod index;
@@ -26,9 +27,11 @@ mod program;
 mod refusal;
 mod set_directory;
 mod set_note_lines;
+mod shell_path;
 mod shown_path;
 mod source_counts;
 mod source_paths;
+mod sum;
 
 pub use dd_engine::{
     Choice, ConflictingFiles, EngineFault, Indexed, LeftOut, MergeFault, Merged, NotedFault,
@@ -37,8 +40,8 @@ pub use dd_engine::{
     withdraw_with_notes,
 };
 pub use dd_files::{
-    CopyFault, DIRECTORY, Files, LinkFault, NotDone, NotThere, Progress, Step, copy_image,
-    digest_text,
+    Cause, CopyFault, DIRECTORY, Files, Hints, LinkFault, NotDone, NotThere, Progress, Step,
+    copy_image, digest_text,
 };
 pub use dd_filing::{Filed, FilingFault, copy_version, file_image};
 pub use dd_line::{Asked, LineFault, Verb, read_words};

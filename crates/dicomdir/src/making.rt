@@ -32,10 +32,18 @@ pub(crate) struct Making<'a> {
     pub(crate) dry_run: bool,
     /// Whether images get hard links in place of copies.
     pub(crate) link: bool,
+    /// Whether a person is shown what became of the sources.
+    pub(crate) explains: bool,
 }
 
 impl<'a> Making<'a> {
-    pub(crate) fn of(alloc: Global, new_set: &'a NewSet, names: &'a Names, link: bool) -> Making<'a>
+    pub(crate) fn of(
+        alloc: Global,
+        new_set: &'a NewSet,
+        names: &'a Names,
+        link: bool,
+        explains: bool,
+    ) -> Making<'a>
         ensures folder { result.folder.now ≡ string_bytes new_set.now.out }
         ensures names { result.names.now ≡ names.now }
         ensures limit { result.max_bytes ≡ new_set.now.max_bytes }
@@ -51,6 +59,7 @@ impl<'a> Making<'a> {
             strict: new_set.strict,
             dry_run: new_set.dry_run,
             link,
+            explains,
         }
     }
 }

@@ -158,10 +158,9 @@ fn is_noted(noted: &NotedMerge<'_>) -> bool
     has_notes(&noted.notes) || has_set_notes(&noted.sets)
 }
 
-/// Prints what is noted of these file-sets: records that are not reached, files that are left out, images that are
-/// withdrawn, UIDs that are in no record, and Patient IDs that have more than one name. A withdrawal is to pass
-/// from site to site without a word, so it is printed only where the run is strict. It fails only where the output
-/// failed.
+/// Prints what is noted of these file-sets: records that are not reached, files left out, images withdrawn, UIDs in no
+/// record, and Patient IDs with more than one name. A withdrawal is to pass from site to site without a word, so it is
+/// printed only where the run is strict. It fails only where the output failed.
 fn tell_noted<O: Write>(
     noted: &NotedMerge<'_>,
     is_strict: bool,

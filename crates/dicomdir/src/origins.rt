@@ -49,7 +49,7 @@ pub(crate) trait Origins {
     fn gives_links(&self) -> bool
         ensures { result ≡ true → gives_links self.now };
 
-    /// Finds what a refusal names where the file is not what the plan says of it: the file of the first record that
+    /// Finds what a refusal names where the file is not what the plan says. It is the file of the first record that
     /// says what the plan says, or the picked file where no record does or a set can't be read again.
     fn claimant(
         &self,

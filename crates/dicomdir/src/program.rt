@@ -1,14 +1,15 @@
 //! The program's run.
-ghost use Rattle.std.specs.Prelude.{◌≡◌, ◌≤◌, ◌<◌, ◌⊎◌, IfErr, IfOk, length, true, false};
+ghost use Rattle.std.specs.Prelude.{◌≡◌, ◌≤◌, ◌<◌, ◌⊎◌, ◌↔◌, IfErr, IfOk, length, true, false};
 ghost use Rattle.dd_line.specs.Line.{HasBadName, IsCheck, IsReading, LacksSources, OnlyReads};
 ghost use Rattle.dd_line.specs.Requests.{folder_of, is_dry, links, read_of, verb_of};
 ghost use Rattle.dicomdir.specs.DryRun.{HasDryRun, HasLink, first_path};
 ghost use Rattle.dicomdir.specs.EmptyPaths.{HasEmptyPath, RequestsEmptyPath};
 ghost use Rattle.dicomdir.specs.Made.{DoneMakes, MakesSome};
-ghost use Rattle.dicomdir.specs.Refusal.{IsOfWork};
+ghost use Rattle.dicomdir.specs.Refusal.{IsAmong, IsBadLine, IsOfWork};
 ghost use Rattle.dicomdir.specs.Words.{IsRequestStatus, IsStatusOf, IsTaken, MakesRequested, line_of};
 
 use crate::empty_paths::empty_path;
+use crate::hints::print_hints;
 use crate::index::run_index;
 use crate::inspecting::{comparison_of, form_of, run_check, run_list};
 use crate::line_refusal::refuse_line;
@@ -18,7 +19,7 @@ use crate::names::{Names, names_of};
 use crate::refusal::{Paths, Refusal, tell};
 use crate::source_paths::all_sources;
 use dd_elem::Write;
-use dd_files::{Files, Progress};
+use dd_files::{Files, Hints, Progress};
 use dd_line::{Request, read_request};
 use std::alloc::Global;
 use std::slice;
@@ -37,9 +38,12 @@ struct LinePaths<'a> {
     sources: &'a [String],
 }
 
-/// Runs a command line, the first word being the program's name, and answers the status: 0 where the
-/// work is done or help was asked for, 1 where the run was refused or the output failed, 2 where the
-/// command line is at fault, and 3 where `check` found something.
+/// Runs a command line, the first word being the program's name, and answers the status:
+///
+/// - 0 where the work is done or help was asked for
+/// - 1 where the run was refused or the output failed
+/// - 2 where the command line is at fault
+/// - 3 where `check` found something
 ///
 /// `index [--id ID] [--uid UID] [--max-bytes N] [--files0-from FILE] OUT SRC...` copies the images to their
 /// File IDs in the folder OUT and writes OUT/DICOMDIR. It prints `SKIP <path>: <fault>` for each source that
@@ -68,8 +72,9 @@ struct LinePaths<'a> {
 /// themselves with their records, and with `--strict` it finds each file whose record has no digest. `list [--long]
 /// SET` prints the records of a file-set and the instances that it withdraws.
 ///
-/// The files show the progress of all but `list`, unless the line has `--quiet`.
-pub fn run<F: Files + Progress, O: Write, E: Write>(
+/// The files show the progress of all but `list`, unless the line has `--quiet`. Hints follow the FAULT line where the
+/// files say that a person reads it, unless the line has `--quiet`, and with `--verbose` always.
+pub fn run<F: Files + Progress + Hints, O: Write, E: Write>(
     alloc: Global,
     words: Vec<String>,
     files: &mut F,
@@ -111,7 +116,7 @@ pub fn run<F: Files + Progress, O: Write, E: Write>(
 }
 
 /// Prints a refusal if there is one, and answers the status.
-fn run_request<F: Files + Progress, O: Write, E: Write>(
+fn run_request<F: Files + Progress + Hints, O: Write, E: Write>(
     alloc: Global,
     request: &Request,
     files: &mut F,
@@ -130,11 +135,14 @@ fn run_request<F: Files + Progress, O: Write, E: Write>(
 {
     let names = match names_of(alloc, request) {
         Ok(names) => names,
-        Err(fault) => return tell(&Refusal::general(fault), Paths::none(), err),
+        Err(fault) => {
+            let refusal = Refusal::general(fault);
+            return tell_with_hints(&refusal, request, Paths::none(), files, err);
+        }
     };
     let paths = paths_of(request);
     match empty_path(request.new_set(), paths.sources) {
-        Some(refusal) => tell_empty(&refusal, paths, err),
+        Some(refusal) => tell_empty(&refusal, request, paths, files, err),
         None => {
             let work = Work {
                 request,
@@ -146,7 +154,7 @@ fn run_request<F: Files + Progress, O: Write, E: Write>(
 }
 
 /// Runs the command, whose paths have passed. Prints a refusal if there is one, and answers the status.
-fn run_named<F: Files + Progress, O: Write, E: Write>(
+fn run_named<F: Files + Progress + Hints, O: Write, E: Write>(
     alloc: Global,
     work: Work<'_>,
     files: &mut F,
@@ -194,8 +202,41 @@ fn is_quiet(request: &Request) -> bool {
     }
 }
 
+fn is_verbose(request: &Request) -> bool {
+    match request {
+        Request::Index(index) => index.new_set.verbose,
+        Request::Merge(merge) => merge.new_set.verbose,
+        Request::Withdraw(withdraw) => withdraw.new_set.verbose,
+        Request::Check(check) => check.verbose,
+        Request::List(list) => list.verbose,
+    }
+}
+
+fn shows_hints<F: Hints>(request: &Request, files: &F) -> bool {
+    is_verbose(request) || (!is_quiet(request) && files.has_reader())
+}
+
+/// Prints why the work was refused, with hints where these are shown, and answers the status.
+fn tell_with_hints<F: Hints, E: Write>(
+    refusal: &Refusal,
+    request: &Request,
+    paths: Paths<'_>,
+    files: &F,
+    err: &mut E,
+) -> u8
+    requires { IsAmong (length paths.sources.now) refusal.now.subject }
+    ensures line { result ≡ 2 ↔ IsBadLine refusal.now.fault }
+    ensures status { (result ≡ 1) ⊎ (result ≡ 2) }
+{
+    let status = tell(refusal, paths, err);
+    if shows_hints(request, files) {
+        print_hints(refusal, paths, files, err);
+    }
+    status
+}
+
 /// Erases the line of progress, prints why the work was refused, and answers the status.
-fn tell_refusal<F: Files + Progress, E: Write>(
+fn tell_refusal<F: Files + Progress + Hints, E: Write>(
     refusal: &Refusal,
     request: &Request,
     paths: LinePaths<'_>,
@@ -213,10 +254,16 @@ fn tell_refusal<F: Files + Progress, E: Write>(
         list: list_of(request),
         unstored: files.unstored(),
     };
-    tell(refusal, paths, err)
+    tell_with_hints(refusal, request, paths, files, err)
 }
 
-fn tell_empty<E: Write>(refusal: &Refusal, paths: LinePaths<'_>, err: &mut E) -> u8
+fn tell_empty<F: Hints, E: Write>(
+    refusal: &Refusal,
+    request: &Request,
+    paths: LinePaths<'_>,
+    files: &F,
+    err: &mut E,
+) -> u8
     requires { IsOfWork (length paths.sources.now) refusal.now }
     ensures { result ≡ 1 }
 {
@@ -226,7 +273,7 @@ fn tell_empty<E: Write>(refusal: &Refusal, paths: LinePaths<'_>, err: &mut E) ->
         list: "",
         unstored: "",
     };
-    tell(refusal, paths, err)
+    tell_with_hints(refusal, request, paths, files, err)
 }
 
 fn paths_of(request: &Request) -> LinePaths<'_>
@@ -277,7 +324,7 @@ fn list_of(request: &Request) -> &str {
 }
 
 /// Runs the command on these sources, of which the line itself gives the first.
-fn run_verb<F: Files + Progress, O: Write>(
+fn run_verb<F: Files + Progress + Hints, O: Write>(
     alloc: Global,
     work: Work<'_>,
     sources: &[String],
@@ -298,17 +345,18 @@ fn run_verb<F: Files + Progress, O: Write>(
         (folder_of work.entry.request.now) (F.held files.old) (F.held files.new) }
 {
     let Work { request, names } = work;
+    let explains = shows_hints(request, files);
     match request {
         Request::Index(index) => {
-            let making = Making::of(alloc, &index.new_set, names, false);
+            let making = Making::of(alloc, &index.new_set, names, false, explains);
             run_index(making, sources, files, out)
         }
         Request::Merge(merge) => {
-            let making = Making::of(alloc, &merge.new_set, names, merge.link);
+            let making = Making::of(alloc, &merge.new_set, names, merge.link, explains);
             run_merge(making, sources, files, out)
         }
         Request::Withdraw(withdraw) => {
-            let making = Making::of(alloc, &withdraw.new_set, names, false);
+            let making = Making::of(alloc, &withdraw.new_set, names, false, explains);
             run_withdraw(making, &withdraw.set, files, out)
         }
         Request::Check(check) => {

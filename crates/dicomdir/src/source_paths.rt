@@ -12,8 +12,8 @@ use dd_files::{Files, ReadFault, SOURCE_LIMIT, read_whole};
 use dd_line::{Request, Sources};
 use std::alloc::Global;
 
-/// Lists the paths that a request with a list of names reads: those of its line, and then the names. None if it has no
-/// list. Refused first where the folder of the new file-set already has a directory; then where the list can't be
+/// Lists the paths that a request with a list of names reads: the paths of its line, and then the names. None if it has
+/// no list. Refused first where the folder of the new file-set already has a directory; then where the list can't be
 /// opened or read, or has a bad name.
 pub(crate) fn all_sources<F: Files>(
     alloc: Global,

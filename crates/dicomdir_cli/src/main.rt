@@ -7,7 +7,7 @@ ghost use Rattle.std.specs.Prelude.{◌≡◌, ◌≢◌};
 
 use dd_elem::Write;
 use dicomdir::{print_line, run};
-use dicomdir_host::{Counted, HostFiles};
+use dicomdir_host::{Counted, HostFiles, LastRefusal};
 use std::env;
 use std::fs::{self, File};
 use std::io::{self, ErrorKind, Read};
@@ -78,7 +78,8 @@ fn main(rt: HostRuntime) -> ExitCode {
         let _ = print_line(&["error: /dev/null can't be opened"], &mut err);
         return ExitCode::from(1);
     }
-    let mut files = HostFiles::new(alloc, &rt);
+    let last = LastRefusal::new();
+    let mut files = HostFiles::new(alloc, &rt, &last);
     let mut out = Counted::new(rt.stdout());
     let status = match env::args(&rt) {
         Ok(words) => match words.collect(alloc) {

@@ -12,9 +12,9 @@ pub record IsShort (text is : List ℕ) (most : ℕ) : Type 0 where
   pub same : text ≡ is
   pub short : length text ≤ most
 
--- one more text is added to a line that has room for 64 bytes
-pub adds : (old new text before more : List ℕ) (m n : ℕ) → IsShort old before m → IsShort text more n → m + n < 64
-    → (length old + length text < 64 → new ≡ old ++ text) → IsShort new (before ++ more) (m + n)
+-- one more text is added to a line that has room for 128 bytes
+pub adds : (old new text before more : List ℕ) (m n : ℕ) → IsShort old before m → IsShort text more n → m + n < 128
+    → (length old + length text < 128 → new ≡ old ++ text) → IsShort new (before ++ more) (m + n)
 adds old new text before more m n was has room add =
     let is = add (omega (arith, was.short, has.short)) in
     record {

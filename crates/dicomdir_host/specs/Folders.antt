@@ -9,9 +9,9 @@ AreSlashes path from to = (at : ℕ) → from ≤ at → at < to → slice_index
 abbrev pub HasNoSlash : List ℕ → ℕ → ℕ → Type 0
 HasNoSlash path from to = (at : ℕ) → from ≤ at → at < to → slice_index path at ≢ 47
 
--- The folder in which the last name of a path stands. The name begins at `start`; slashes stand after it, from `end`
--- on, and before it, from `base` on; and before these, the folder: `/` where that is nothing, and `.` where nothing
--- stands before the name.
+-- The folder in which the last name of a path stands. The name begins at `start`. Slashes stand after it, from `end`
+-- on, and before it, from `base` on. What stands before `base` is the folder: `/` where that is nothing, and `.` where
+-- nothing stands before the name.
 pub record IsFolderOf (path folder : List ℕ) : Type 0 where
   pub base : ℕ
   pub start : ℕ

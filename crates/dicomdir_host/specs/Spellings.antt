@@ -11,8 +11,8 @@ most_path = 4096
 abbrev pub in_small_letters : List ℕ → List ℕ
 in_small_letters name = map to_ascii_lowercase name
 
--- a recorded name as systems show it, in the order in which it is looked for: as recorded and in small letters, and
--- each of them with the dot and the version number that stand after a name on the disc
+-- A recorded name as systems show it, in the order in which it is looked for: as recorded and in small letters. Then
+-- each with what stands after a name on the disc: dot and version number, or one of these.
 abbrev pub shown : List ℕ → List (List ℕ)
 shown name = let low : List ℕ = in_small_letters name in
     name ∷ low ∷ (name ++ codes ".;1") ∷ (name ++ codes ";1") ∷ (name ++ codes ".")

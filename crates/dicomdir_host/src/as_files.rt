@@ -1,13 +1,18 @@
 //! Implements the traits of dd_files.
 ghost use Rattle.std.specs.Prelude.{ℕ, None, refl};
 
-use crate::counted::Counted;
+use crate::again::{Links, is_folder};
+use crate::counted::{Counted, write_again};
 use crate::host_files::HostFiles;
 use crate::opening::Input;
 use crate::system::System;
 use dd_elem::Write;
-use dd_files::{Files, LinkFault, NotDone, NotThere, Progress, Step};
+use dd_files::{Cause, Files, Hints, LinkFault, NotDone, NotThere, Progress, Step};
+use std::fmt::InlineText;
 use std::io;
+
+/// Limits the bytes of a line that is shown.
+const LINE: usize = 256;
 
 impl<R: System> Write for HostFiles<'_, R> {
     ghost calls = { λ s. s.output.counts.calls };
@@ -21,7 +26,7 @@ impl<R: System> Write for HostFiles<'_, R> {
     ghost rest = { λ s. s.refusals };
 
     fn write(&mut self, bytes: &[u8]) -> io::Result<usize> {
-        self.output.write(bytes)
+        self.last.note(self.output.write(bytes))
     }
 }
 
@@ -32,34 +37,36 @@ impl<R: System> Files for HostFiles<'_, R> {
 
     ghost held = { λ _. None };
 
-    fn source(&mut self, path: &str) -> Result<Counted<Input<R::File, R::Stdin>>, NotThere> {
+    fn source(&mut self, path: &str) -> Result<Self::In, NotThere> {
+        let last = self.last;
         if self.refusals < u64::MAX {
-            if let Ok(file) = self.open(path) {
-                return Ok(Counted::new(file));
+            if let Ok(input) = last.note(self.open(path)) {
+                if input.is_folder() {
+                    last.remember_folder();
+                }
+                return Ok(Counted::new(input));
             }
         }
         self.refusals = self.refusals.saturating_add(1);
         Err(NotThere)
     }
 
-    fn member(
-        &mut self,
-        set: &str,
-        path: &str,
-    ) -> Result<Counted<Input<R::File, R::Stdin>>, NotThere> {
+    fn member(&mut self, set: &str, path: &str) -> Result<Self::In, NotThere> {
+        let last = self.last;
         if self.refusals < u64::MAX {
-            if let Ok(file) = self.open_member(set, path) {
-                return Ok(Counted::new(file));
+            if let Ok(input) = last.note(self.open_member(set, path)) {
+                return Ok(Counted::new(input));
             }
         }
         self.refusals = self.refusals.saturating_add(1);
         Err(NotThere)
     }
 
-    fn names(&mut self, path: &str) -> Result<Counted<Input<R::File, R::Stdin>>, NotThere> {
+    fn names(&mut self, path: &str) -> Result<Self::In, NotThere> {
+        let last = self.last;
         if self.refusals < u64::MAX {
-            if let Ok(list) = self.open_names(path) {
-                return Ok(Counted::new(list));
+            if let Ok(input) = last.note(self.open_names(path)) {
+                return Ok(Counted::new(input));
             }
         }
         self.refusals = self.refusals.saturating_add(1);
@@ -67,23 +74,27 @@ impl<R: System> Files for HostFiles<'_, R> {
     }
 
     fn folder(&mut self, path: &str) -> Result<(), NotDone> {
-        let is_done = self.refusals < u64::MAX && self.make(path, path.len()).is_ok();
+        let last = self.last;
+        let is_done = self.refusals < u64::MAX && last.note(self.make(path, path.len())).is_ok();
         self.answer(is_done)
     }
 
     fn folder_in(&mut self, out: &str, path: &str) -> Result<(), NotDone> {
-        let is_done = self.refusals < u64::MAX && self.make(path, out.len()).is_ok();
+        let last = self.last;
+        let is_done = self.refusals < u64::MAX && last.note(self.make(path, out.len())).is_ok();
         self.answer(is_done)
     }
 
     fn create(&mut self, path: &str) -> Result<(), NotDone> {
-        if self.refusals < u64::MAX && self.start(path).is_ok() {
+        let last = self.last;
+        if self.refusals < u64::MAX && last.note(self.start(path)).is_ok() {
             return Ok(());
         }
         self.answer(false)
     }
 
     fn link(&mut self, set: &str, from: &str, path: &str) -> Result<(), LinkFault> {
+        self.last.forget();
         let mut fault = LinkFault::Absent;
         if self.refusals < u64::MAX {
             match self.add_link(set, from, path) {
@@ -96,19 +107,19 @@ impl<R: System> Files for HostFiles<'_, R> {
     }
 
     fn finish(&mut self) -> Result<(), NotDone> {
-        let is_ended = self.end().is_ok();
+        let is_ended = self.last.note(self.end()).is_ok();
         let is_done = self.refusals < u64::MAX && is_ended;
         self.answer(is_done)
     }
 
     fn store_batch(&mut self) -> Result<(), NotDone> {
-        let is_stored = self.store_waiting().is_ok();
+        let is_stored = self.last.note(self.store_waiting()).is_ok();
         let is_done = self.refusals < u64::MAX && is_stored;
         self.answer(is_done)
     }
 
     fn store(&mut self) -> Result<(), NotDone> {
-        let is_stored = self.store_all().is_ok();
+        let is_stored = self.last.note(self.store_all()).is_ok();
         let is_done = self.refusals < u64::MAX && is_stored;
         self.answer(is_done)
     }
@@ -139,5 +150,30 @@ impl<R: System> Progress for HostFiles<'_, R> {
 
     fn silence(&mut self) {
         self.progress.end();
+    }
+}
+
+impl<R: System> Hints for HostFiles<'_, R> {
+    fn has_reader(&self) -> bool {
+        self.rt.terminal().is_some()
+    }
+
+    fn cause(&self) -> Cause {
+        self.last.words()
+    }
+
+    fn is_folder(&self, path: &str) -> bool {
+        is_folder(self.rt, path, Links::Followed)
+    }
+
+    /// Shows at most 255 bytes. A failed write is ignored.
+    fn show_line(&mut self, pieces: &[&str]) {
+        self.progress.hide();
+        let mut line = InlineText::<LINE>::new();
+        for piece in pieces {
+            line = line.and_str(piece, piece.len());
+        }
+        line = line.and_str("\n", 1);
+        let _ = write_again(&mut self.rt.error_output(), line.as_str().as_bytes());
     }
 }

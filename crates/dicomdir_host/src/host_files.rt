@@ -6,6 +6,7 @@ ghost use Rattle.dicomdir_host.specs.Storing.{IsStored, Names};
 
 use crate::again::{Links, is_folder, look, make_folder};
 use crate::counted::Counted;
+use crate::last_refusal::LastRefusal;
 use crate::members::Members;
 use crate::opening::{Input, open_any, open_seen};
 use crate::output::{self, Output};
@@ -60,6 +61,7 @@ pub struct HostFiles<'a, R: System> {
     out_len: usize,
     pub(crate) members: Members,
     pub(crate) progress: ProgressLine<R::Terminal>,
+    pub(crate) last: &'a LastRefusal,
     pub(crate) refusals: u64,
 }
 
@@ -76,6 +78,7 @@ impl<R: System> Drop for HostFiles<'_, R> {
             out_len: _,
             members: _members,
             progress: _progress,
+            last: _,
             refusals: _,
         } = self;
     }
@@ -99,8 +102,8 @@ fn has_no_more(error: &io::Error) -> bool {
 }
 
 impl<'a, R: System> HostFiles<'a, R> {
-    /// Makes the files of the system; none is being written.
-    pub fn new(alloc: Global, rt: &'a R) -> Self
+    /// Makes the files of the system; none is being written. What the system refuses is remembered in `last`.
+    pub fn new(alloc: Global, rt: &'a R, last: &'a LastRefusal) -> Self
         ensures { result.refusals ≡ 0 }
     {
         HostFiles {
@@ -113,6 +116,7 @@ impl<'a, R: System> HostFiles<'a, R> {
             out_len: 0,
             members: Members::new(),
             progress: ProgressLine::new(rt.terminal()),
+            last,
             refusals: 0,
         }
     }

@@ -5,6 +5,7 @@ mod again;
 mod as_files;
 mod counted;
 mod host_files;
+mod last_refusal;
 mod linking;
 mod members;
 mod opening;
@@ -18,4 +19,5 @@ mod system;
 
 pub use counted::Counted;
 pub use host_files::HostFiles;
+pub use last_refusal::LastRefusal;
 pub use system::System;

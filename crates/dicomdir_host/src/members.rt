@@ -90,18 +90,20 @@ fn split_set<'a>(set: &str, path: &'a str) -> (&'a str, &'a str) {
     path.split_at_checked(above).unwrap_or((path, ""))
 }
 
-/// Looks up the name, and adds it to the place as it is shown.
+/// Looks for the spellings of the name, and adds the one found to the place.
 fn find_name<R: fs::Files>(rt: &R, name: &str, place: &mut PathBuffer) -> io::Result<Metadata>
     ensures no_link { IfOk result (λ found. ¬ IsSymlink (file_type found)) }
 {
     let folder_len = place.len();
+    let mut refused = io::Error::from(ErrorKind::NotFound);
     for spelling in spellings() {
         place.truncate(folder_len);
         place.push_spelled(name, spelling)?;
         match look(rt, place.as_str(), Links::Kept) {
             Ok(found) if !found.is_symlink() => return Ok(found),
-            _ => {}
+            Ok(_) => {}
+            Err(error) => refused = error,
         }
     }
-    Err(io::Error::from(ErrorKind::NotFound))
+    Err(refused)
 }

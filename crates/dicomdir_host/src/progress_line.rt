@@ -18,8 +18,15 @@ const PAUSE: u64 = 100;
 /// Erases the line of a terminal (ECMA-48, CR and EL).
 const ERASE: &str = "\r\x1b[K";
 
-/// Limits the bytes of a line, with those that erase the one before it.
-const LINE: usize = 64;
+/// Seconds of a step from which on the time that is left is shown.
+const SLOW: u64 = 10;
+
+/// The most bytes of a line, and of the bytes that erase the line before it.
+const LINE: usize = 128;
+
+const LEFT: usize = 32;
+
+type LeftText = InlineText<LEFT>;
 
 /// Counts what is done of a step, and shows it in one line of a terminal, at most ten times a second.
 pub(crate) struct ProgressLine<W: io::Write + Drop> {
@@ -28,6 +35,9 @@ pub(crate) struct ProgressLine<W: io::Write + Drop> {
     step: Step,
     done: u64,
     of: u64,
+    /// How many files were stored in this step.
+    stored: u64,
+    begun: Option<Instant>,
     /// When the next line may be shown, once something was counted.
     due: Option<Instant>,
     is_shown: bool,
@@ -41,6 +51,8 @@ impl<W: io::Write + Drop> Drop for ProgressLine<W> {
             step: _,
             done: _,
             of: _,
+            stored: _,
+            begun: _,
             due: _,
             is_shown: _,
         } = self;
@@ -54,6 +66,8 @@ impl<W: io::Write + Drop> ProgressLine<W> {
             step: Step::Reading,
             done: 0,
             of: 0,
+            stored: 0,
+            begun: None,
             due: None,
             is_shown: false,
         }
@@ -63,20 +77,47 @@ impl<W: io::Write + Drop> ProgressLine<W> {
         self.step = step;
         self.done = 0;
         self.of = of;
-        self.show(clock, step_word(step), 0, of);
+        self.stored = 0;
+        self.begun = match self.terminal {
+            Some(_) => Instant::now(clock).ok(),
+            None => None,
+        };
+        self.show(clock, step_word(step), 0);
     }
 
     pub(crate) fn advance<C: Clock>(&mut self, clock: &C) {
         self.done = self.done.saturating_add(1);
-        self.show(clock, step_word(self.step), self.done, self.of);
+        self.show(clock, step_word(self.step), self.done);
+    }
+
+    /// Shows that one more file is being stored.
+    pub(crate) fn store<C: Clock>(&mut self, clock: &C) {
+        self.show(clock, "storing", self.stored);
+        self.stored = self.stored.saturating_add(1);
     }
 
     /// Shows a line, if it is time for one.
-    pub(crate) fn show<C: Clock>(&mut self, clock: &C, doing: &str, done: u64, of: u64) {
-        if self.terminal.is_some() && self.is_due(clock) {
-            self.print(line(doing, done, of).as_str());
+    fn show<C: Clock>(&mut self, clock: &C, doing: &str, done: u64) {
+        if self.terminal.is_none() {
+            return;
+        }
+        if let Some(now) = self.due_time(clock) {
+            let left = self.time_left(now, done);
+            self.print(line(doing, done, self.of, left.as_str()).as_str());
             self.is_shown = true;
         }
+    }
+
+    /// Says how long the step still takes, by the number of files, where it is slow.
+    fn time_left(&self, now: Instant, done: u64) -> LeftText {
+        let taken = match self.begun {
+            Some(begun) => now.saturating_duration_since(begun).as_secs(),
+            None => 0,
+        };
+        if taken < SLOW || done == 0 || done >= self.of {
+            return LeftText::new();
+        }
+        left_text(taken.saturating_mul(self.of - done) / done)
     }
 
     pub(crate) fn hide(&mut self) {
@@ -92,20 +133,18 @@ impl<W: io::Write + Drop> ProgressLine<W> {
         self.terminal = None;
     }
 
-    /// If it is time, sets when the next line may be shown.
-    fn is_due<C: Clock>(&mut self, clock: &C) -> bool {
-        let Ok(now) = Instant::now(clock) else {
-            return false;
-        };
+    /// Gives the time, if a line may be shown, and sets when the next one may be.
+    fn due_time<C: Clock>(&mut self, clock: &C) -> Option<Instant> {
+        let now = Instant::now(clock).ok()?;
         let Some(due) = self.due else {
             self.due = now.checked_add(Duration::from_millis(FIRST));
-            return false;
+            return None;
         };
         if now < due {
-            return false;
+            return None;
         }
         self.due = now.checked_add(Duration::from_millis(PAUSE));
-        true
+        Some(now)
     }
 
     /// A failed write is ignored.
@@ -123,15 +162,33 @@ fn step_word(step: Step) -> &'static str {
     }
 }
 
+fn left_text(seconds: u64) -> LeftText {
+    let (count, unit) = if seconds < 100 {
+        (seconds, " s left")
+    } else if seconds < 6000 {
+        (seconds / 60, " min left")
+    } else {
+        (seconds / 3600, " h left")
+    };
+    let mut number = Buffer::new();
+    let number = number.format(count);
+    LeftText::new()
+        .and_str(", ", 2)
+        .and_str(number, number.len())
+        .and_str(unit, unit.len())
+}
+
 /// Gives a line that takes the place of the one before it.
-fn line(doing: &str, done: u64, of: u64) -> InlineText<LINE>
-    ensures { length doing.now ≤ 8 → inline_text result ≡ progress_line doing.now done of }
+fn line(doing: &str, done: u64, of: u64, left: &str) -> InlineText<LINE>
+    ensures { length doing.now ≤ 8 → length left.now ≤ LEFT
+        → inline_text result ≡ progress_line doing.now done of left.now }
 {
     let mut first = Buffer::new();
     let mut second = Buffer::new();
     let start = with(with(InlineText::new(), "\r"), doing);
     let counted = with(with(start, " "), first.format(done));
-    with(with(with(counted, " of "), second.format(of)), "\x1b[K")
+    let all = with(with(counted, " of "), second.format(of));
+    with(with(all, left), "\x1b[K")
 }
 
 /// Adds the text where there is room for it.

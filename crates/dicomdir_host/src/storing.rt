@@ -118,7 +118,7 @@ impl<F: OpenFile + Drop> Unstored<F> {
         }
     }
 
-    /// Makes the system store the files, closes them, and shows how many are stored.
+    /// Makes the system store the files, closes them, and shows the progress.
     pub(crate) fn store_files<C: Clock, W: io::Write + Drop>(
         &mut self,
         clock: &C,
@@ -130,15 +130,12 @@ impl<F: OpenFile + Drop> Unstored<F> {
         ensures folders { self.new.folders ≡ self.old.folders }
     {
         let files = mem::replace(&mut self.files, Vec::new(self.alloc));
-        let of = files.len() as u64;
-        let mut stored = 0u64;
         for ended in files {
             let Ended { path, file } = ended;
-            progress.show(clock, "storing", stored, of);
+            progress.store(clock);
             if file.sync_all().is_err() {
                 self.lose(path);
             }
-            stored = stored.saturating_add(1);
         }
         self.answer()
     }

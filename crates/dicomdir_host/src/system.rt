@@ -13,6 +13,8 @@ pub trait System: fs::Files + Clock {
 
     /// Gives the error output where that is a terminal.
     fn terminal(&self) -> Option<Self::Terminal>;
+
+    fn error_output(&self) -> Self::Terminal;
 }
 
 impl System for HostRuntime {
@@ -31,5 +33,9 @@ impl System for HostRuntime {
         } else {
             None
         }
+    }
+
+    fn error_output(&self) -> Stderr {
+        self.stderr()
     }
 }

@@ -108,7 +108,7 @@ fn complement(x: u32x4) -> u32x4
     !x
 }
 
-/// Chooses bits of `y` where those of `x` are 1, and of `z` elsewhere: Ch (4.1.2).
+/// Chooses bits of `y` where the bits of `x` are 1, and of `z` elsewhere: Ch (4.1.2).
 #[inline(always)]
 pub(crate) fn ch(x: u32x4, y: u32x4, z: u32x4) -> u32x4
     ensures { (j : ℕ) → j < 4 → slice_index result j ≡ ch (slice_index x j) (slice_index y j) (slice_index z j) }

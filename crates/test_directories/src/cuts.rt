@@ -5,8 +5,8 @@ use dd_vectors::{ask_all, first_directory, put_at};
 use std::alloc::Global;
 use std::test::Fail;
 
-/// To how many bytes at least and at most the directory of V1 is cut, and what is said of each such front: within
-/// the preamble, within group 0002, then between and within the elements of the data set, the last of which has
+/// To how many bytes at least and at most the directory of V1 is cut, and what is said of each such front. It ends
+/// within the preamble, within group 0002, then between and within the elements of the data set, the last of which has
 /// all records. The whole is the last.
 const CUTS: &str = "\
 0 131 > 51 File 21 NotPart10

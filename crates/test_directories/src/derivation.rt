@@ -10,8 +10,8 @@ use dd_vectors::{ask_all, taken};
 use std::alloc::Global;
 use std::test::Fail;
 
-/// Images (`v` for V1), the ID of the file-set and the most bytes of a directory, or none of these; and the
-/// UID, computed by another program from the bytes of the directory, or why there is no UID.
+/// Images (`v` for V1), the ID of the file-set and the most bytes of a directory, or none of these. Then the UID,
+/// computed by another program from the bytes of the directory, or why there is no UID.
 const DERIVED: &str = "\
 v   > 2.25.203980963844863891982135713436996079817
 v  876 > 2.25.203980963844863891982135713436996079817

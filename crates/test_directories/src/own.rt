@@ -8,8 +8,8 @@ use dd_vectors::{ask_all, in_words};
 use std::alloc::{AllocError, Global};
 use std::test::Fail;
 
-/// A directory (`v2`, `v3`, `one`, or letters of images with the withdrawn instances) and what is put into its bytes
-/// at a place; and the instances of its catalogue, with `-` before each that is withdrawn, or why it is refused.
+/// A directory (`v2`, `v3`, `one`, or letters of images with the withdrawn instances) and what is put into its bytes at
+/// a place. Then the instances of its catalogue, with `-` before each that is withdrawn, or why it is refused.
 const CATALOGUES: &str = "\
 v2 > 0
 one > 1 1.2.3.4.5
@@ -58,8 +58,8 @@ v3 674 ffff > 61 NoDigest 646
 one 348 0000 > 62 ForeignRecord 320
 one 402 2020 > 63 RecordKey 320 (0010,0020)";
 
-/// A directory with what is put into its bytes; and the first byte of the digest, the description, the instance
-/// and the File ID of each image, in the order of their records, or why it is refused.
+/// A directory with what is put into its bytes. Then the first byte of the digest, the description, the instance and
+/// the File ID of each image, in the order of their records, or why it is refused.
 const IMAGES: &str = "\
 v2 > 0
 1/1.2.3.4.6 > 1, 170 ' 1.2.3.4.5 PT000001\\ST000001\\SE000001\\IM000001, -1.2.3.4.6

@@ -14,8 +14,8 @@ const FRONTS: &str = "\
 1234 > 2032: 320 1476 1712
 AC > 1132: 320 320 812";
 
-/// Images and the place of a record of their directory, and its item: how many bytes it has, and the offsets
-/// of the next record of its parent and of the first one below.
+/// Images and the place of a record of their directory. Then its item: how many bytes it has, and the offsets of the
+/// next record of its parent and of the first one below.
 const RECORDS: &str = "\
 1 320 > 76: 0 404
 1 404 > 118: 0 530
@@ -38,7 +38,7 @@ const LIMITS: &str = "\
 875 > 43 TooLarge
 0 > 43 TooLarge";
 
-/// Merges of batches that come to the same four images.
+/// Merges of batches that give the same four images.
 const FOUR: &str = "212+43 43+212 4+3+2+1 1234+1234";
 
 pub(crate) fn label_of(id: &str) -> Result<Label, Fail> {

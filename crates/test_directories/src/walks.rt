@@ -7,7 +7,7 @@ use std::alloc::Global;
 use std::test::Fail;
 
 /// A directory (`v1`, `v2`, `v3`, `one`, `disc`, or letters of images with the withdrawn instances) and what is put
-/// into its bytes at a place; and its File-set ID, its records, each before those below it in brackets, and how many
+/// into its bytes at a place. Then its File-set ID, its records, each before those below it in brackets, and how many
 /// items are not reached, or why it is refused.
 const CHANGED: &str = "\
 v2 > 0

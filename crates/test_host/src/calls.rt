@@ -3,8 +3,8 @@
 use crate::disc::{Call, Disc, DiscFiles};
 use crate::power_cut::Kind;
 use dd_elem::{Read, Write};
-use dd_files::{Files, LinkFault, Progress, Step};
-use dicomdir_host::HostFiles;
+use dd_files::{Files, Hints, LinkFault, Progress, Step};
+use dicomdir_host::{HostFiles, LastRefusal};
 use std::alloc::Global;
 use std::cell::RefCell;
 use std::io::ErrorKind;
@@ -187,6 +187,7 @@ fn counts(files: &mut HostFiles<'_, DiscFiles<'_>>, verb: &str, what: &str) -> R
         "advance" => files.advance(),
         "hide" => files.hide_line(),
         "quiet" => files.silence(),
+        "say" => files.show_line(&[what, "!"]),
         _ => return Ok(false),
     }
     Ok(true)
@@ -205,6 +206,8 @@ fn tell(
         "read" | "find" | "names" => return read(alloc, files, verb, what, said),
         "unstored" => return Ok(said.push_str(files.unstored())?),
         "second" => return Ok(said.push_str(second(files, what))?),
+        "is" => return Ok(said.push_str(if files.is_folder(what) { "yes" } else { "no" })?),
+        "cause" => return Ok(said.push_str(files.cause().as_str())?),
         _ => {}
     }
     let sign = if counts(files, verb, what)? || is_prepared(disc, verb, what)? {
@@ -235,7 +238,8 @@ fn tell_all(
 
 pub(crate) fn in_words(alloc: Global, disc: &RefCell<Disc>, calls: &str) -> Result<String, Fail> {
     let rt = DiscFiles(disc);
-    let mut files = HostFiles::new(alloc, &rt);
+    let last = LastRefusal::new();
+    let mut files = HostFiles::new(alloc, &rt, &last);
     let mut said = String::new(alloc);
     tell_all(alloc, disc, &mut files, calls, &mut said)?;
     Ok(said)

@@ -6,7 +6,7 @@ use std::cell::RefCell;
 use std::test::Fail;
 
 // In each line the calls of a run, all of which work: with no image, with a folder that is there, with folders above it
-// that are made; with images in folders, before or after which others are stored.
+// that are made. Then with images in folders, before or after which others are stored.
 const RUNS: &str = "\
 folder o, store, create o/DICOMDIR, write xyz, finish, store
 dir o, folder o, store, create o/DICOMDIR, write xyz, finish, store

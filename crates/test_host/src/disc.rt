@@ -31,9 +31,9 @@ pub(crate) enum Call {
     Clock,
 }
 
-/// The disc: its entries in the order in which they were made, the next call that fails, what was to be made and what
-/// was stored, in order, what was looked at, how many files are open and may be, after how many calls a power cut would
-/// have left a whole directory without its images, and the terminal.
+/// The disc has its entries in the order in which they were made, the next call that fails, and the terminal. It logs
+/// what was to be made and what was stored, in order, and what was looked at. It says how many files are open and may
+/// be, and after how many calls a power cut would have left a whole directory without its images.
 pub(crate) struct Disc {
     alloc: Global,
     pub(crate) entries: Vec<Entry>,

@@ -4,7 +4,7 @@ use crate::calls::{all_of, in_words, write_all};
 use crate::disc::{Disc, DiscFiles};
 use dd_files::Files;
 use dd_vectors::claim_all;
-use dicomdir_host::HostFiles;
+use dicomdir_host::{HostFiles, LastRefusal};
 use std::alloc::Global;
 use std::cell::RefCell;
 use std::test::Fail;
@@ -29,6 +29,10 @@ file a, fail look, read a, pause look, read a > . . - . old > old
 dir d, pause look, folder d > . . + > none
 file a, names a > . old > old
 silent a, names a > . old > old
+file a, limit 0, read a, cause, limit 9, read a, cause, fail read, read a, cause > \
+. . - Too many open files . old  . !  > old
+dir d, file a, is d, is a, is b > . . yes no no > old
+dir d, read d, cause, read e, cause > . ! Is a directory -  > none
 pipe a, names a > .  >
 dir a, names a > . ! >
 names -, names b > word - > none
@@ -142,7 +146,8 @@ fn gives(
 fn comes_back(alloc: Global, bytes: &[u8]) -> Result<bool, Fail> {
     let disc = RefCell::new(Disc::new(alloc)?);
     let rt = DiscFiles(&disc);
-    let mut files = HostFiles::new(alloc, &rt);
+    let last = LastRefusal::new();
+    let mut files = HostFiles::new(alloc, &rt, &last);
     Ok(is_written(&mut files, bytes) && gives(alloc, &mut files, bytes)?)
 }
 

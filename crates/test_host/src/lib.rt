@@ -1,6 +1,6 @@
-//! Tests of the files of the machine over a disc in memory: reading back what was written, what is stored and when, how
-//! files and folders are found, what a power cut leaves, what a terminal shows, and that each call that fails is
-//! reported.
+//! Tests of the files of the machine over a disc in memory: reading back what was written, what is stored and when, and
+//! how files and folders are found. Then what a power cut leaves, what a terminal shows, and that each call that fails
+//! is reported.
 #![tactic(auto)]
 
 #[cfg(test)]
@@ -14,6 +14,8 @@ mod disc_file;
 #[cfg(test)]
 mod files;
 #[cfg(test)]
+mod hard_links;
+#[cfg(test)]
 mod names;
 #[cfg(test)]
 mod power_cut;
@@ -21,5 +23,3 @@ mod power_cut;
 mod progress;
 #[cfg(test)]
 mod screen;
-#[cfg(test)]
-mod second_names;

@@ -1,4 +1,4 @@
-//! What a disc holds after a power cut, if it promises what POSIX does and no more: the bytes of a file last once it
+//! What a disc holds after a power cut, if it promises what POSIX does and no more. The bytes of a file last once it
 //! was stored, and a name once its folder was. All else may be there or not.
 
 #[derive(Clone, Copy, PartialEq)]

@@ -58,6 +58,7 @@ impl Write for Terminal<'_> {
             disc.screen.text.push(match *byte {
                 b'\r' => '<',
                 b'\x1b' => '^',
+                b'\n' => '|',
                 other => char::from(other),
             })?;
         }
@@ -110,6 +111,10 @@ impl<'a> System for DiscFiles<'a> {
     }
 
     fn terminal(&self) -> Option<Terminal<'a>> {
-        Some(Terminal { disc: self.0 })
+        Some(self.error_output())
+    }
+
+    fn error_output(&self) -> Terminal<'a> {
+        Terminal { disc: self.0 }
     }
 }

@@ -57,7 +57,7 @@ pub(crate) fn batches(alloc: Global, groups: &str) -> Result<Vec<History>, Fail>
     Ok(parts)
 }
 
-/// What the history of these comes to.
+/// Builds the catalogue of these groups.
 fn built(alloc: Global, groups: &str) -> Result<Catalogue, Fail> {
     let history = History::Merge(batches(alloc, groups)?);
     Ok(build(alloc, &history)?)

@@ -1,4 +1,4 @@
-//! Tests of the catalogue of image instances: what it takes, what it keeps, and what its joins come to.
+//! Tests of the catalogue of image instances: what it takes, what it keeps, and what its joins give.
 
 mod allocations;
 mod counting;

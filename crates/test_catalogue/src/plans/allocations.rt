@@ -66,7 +66,7 @@ fn lay_out_refused(alloc: Global, letters: &str, chosen: u32) -> Result<bool, Fa
     Ok(refused)
 }
 
-/// Fails where the plan is not that of the table.
+/// Fails where the plan is not in the table.
 pub(crate) fn require_plan(alloc: Global, letters: &str, plan: &Plan) -> Result<(), Fail> {
     let lines = lines(alloc, letters, plan)?;
     require(is_planned(lines.as_str()), "the plan has these records")

@@ -7,9 +7,9 @@ use dd_vectors::ask_all;
 use std::alloc::Global;
 use std::test::Fail;
 
-/// The most bytes of a directory, the most records below one parent, the images of the catalogue, and two IDs
-/// of the file-set: that of the first plan, and that of the plan under another label. Then how many bytes the
-/// directory has under the second, or why there is no plan.
+/// The most bytes of a directory, the most records below one parent, the images of the catalogue, and two IDs of the
+/// file-set. The first plan has the one, and another label the other. Then how many bytes the directory has under that,
+/// or why there is no plan.
 const LABELS: &str = "\
 4294967295 999999 1 / > 876
 4294967295 999999 1 /DISC1 > 882

@@ -6,8 +6,8 @@ use dd_vectors::ask_all;
 use std::alloc::Global;
 use std::test::Fail;
 
-/// The most bytes of a directory, the most records below one parent, the images of the catalogue and the
-/// ID of the file-set; and how many bytes the directory has, or why there is no plan.
+/// The most bytes of a directory, the most records below one parent, the images of the catalogue and the ID of the
+/// file-set. Then how many bytes the directory has, or why there is no plan.
 const LIMITS: &str = "\
 4294967295 999999 1 > 876
 876 1 1 > 876

@@ -7,9 +7,9 @@ use dd_version::Version;
 use std::alloc::Global;
 use std::test::Fail;
 
-/// Catalogues, each between empty lines: the images; and of each record the level, its offset, that of the
-/// next one of its parent, that of the first one below, the ranks in the File ID, and the place of the
-/// least version below it.
+/// Catalogues, each between empty lines: the images; then of each record the level, its offset, and the offsets of the
+/// next of its parent and of the first below. Then the ranks in the File ID, and the place of the least version below
+/// it.
 pub(crate) const PLANS: &str = "\
 1
 Patient 320 0 404 - 0

@@ -7,8 +7,8 @@ use dd_vectors::{ask_all, catalogue_of};
 use std::alloc::Global;
 use std::test::Fail;
 
-/// The most bytes of a directory, the images of the catalogue and the instances that are withdrawn, each after
-/// a `/`; and how many bytes the directory has, or why there is no plan.
+/// The most bytes of a directory, the images of the catalogue and the instances that are withdrawn, each after a `/`.
+/// Then how many bytes the directory has, or why there is no plan.
 const SIZES: &str = "\
 4294967295 1 > 876
 4294967295 1/1.2.3.4.6 > 918
@@ -30,7 +30,7 @@ const SIZES: &str = "\
 4294967295 15/1.2.8.4.1 > 918
 4294967295 BD/1.2.3.4.5 > 920";
 
-/// The images of a catalogue, and the instances that are withdrawn; and those of the plan.
+/// The images of a catalogue, the withdrawn instances, and the plan's withdrawn instances.
 const UIDS: &str = "\
 1 > -
 1/1.2.3.4.6 > 1.2.3.4.6

@@ -7,7 +7,7 @@ use dicomdir::{Choice, MergeFault, Merged, first_saying, merge_engine};
 use std::alloc::Global;
 use std::test::Fail;
 
-/// The most bytes of a directory, the most records below one parent, and the directories; and the size of the merged
+/// The most bytes of a directory, the most records below one parent, and the directories. Then the size of the merged
 /// directory, and for each image the number of its set and its File ID there, or the fault.
 const PICKS: &str = "\
 876 1 first first > 876 0 PT000001\\ST000001\\SE000001\\IM000001
@@ -80,8 +80,8 @@ fn files_are_picked_or_sets_refused(rt: HostRuntime) -> Result<(), Fail> {
     ask_all(rt.alloc(), PICKS, picked)
 }
 
-/// Directories that are merged, and after the bar others, which are searched for the first record that says of the
-/// first instance what the merge plans: the number of its set and its File ID there, `none`, or the fault of a
+/// Directories that are merged, and after the bar others. These are searched for the first record that says of the
+/// first instance what the merge plans. Then the number of its set and its File ID there, `none`, or the fault of a
 /// directory.
 const FIRSTS: &str = "\
 first | first first > 0 PT000001\\ST000001\\SE000001\\IM000001

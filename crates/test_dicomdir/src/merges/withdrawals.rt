@@ -7,7 +7,7 @@ use dicomdir::{Choice, withdraw_engine};
 use std::alloc::Global;
 use std::test::Fail;
 
-/// The most bytes of a directory, the directory, and the instances that are withdrawn; and the size of the new
+/// The most bytes of a directory, the directory, and the instances that are withdrawn. Then the size of the new
 /// directory, and for each of its images the File ID that it had, or the fault.
 const WITHDRAWALS: &str = "\
 362 first 1.2.3.4.5 > 362

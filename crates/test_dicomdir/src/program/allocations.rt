@@ -86,22 +86,22 @@ fn allocations_of_index_engine(rt: HostRuntime) -> Result<(), Fail> {
     refuse_each(rt.alloc(), Call::IndexEngine)
 }
 
-/// A line, and what it asks for.
+/// An index, and what its line asks for.
 const INDEX: &str = "\
 dicomdir index --id DISC1 --uid 2.25.1 --max-bytes 1000 set image.dcm > Index DISC1 2.25.1 1000 set image.dcm";
 
-/// The same of a merge.
+/// A merge, and what its line asks for.
 const MERGE: &str = "\
 dicomdir merge --id DISC1 set b a b --uid 2.25.1 > Merge DISC1 2.25.1 4294967295 set b a b";
 
-/// The same of a withdrawal.
+/// A withdrawal, and what its line asks for.
 const WITHDRAW: &str = "\
 dicomdir withdraw --id DISC1 set a 1.2 1.3 > Withdraw DISC1 - 4294967295 set a without 1.2 1.3";
 
 /// A line with an unknown option, its status, and whether its text is for the error output.
 const MISTAKE: &str = "dicomdir index --out set image.dcm > 2 true";
 
-/// Fails where the answer is not that of the case.
+/// Fails where the answer is not the case's.
 fn require_said(alloc: Global, case: &str, answer: &Result<Asked, LineFault>) -> Result<(), Fail> {
     let said = said(alloc, answer)?;
     require(

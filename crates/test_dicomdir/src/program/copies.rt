@@ -8,8 +8,8 @@ use std::test::Fail;
 /// The SHA-256 of V1.
 pub(crate) const DIGEST: &str = "900e75e1c153f87b21e09f9db68aef627f2dd320eb3afb1f2574594e6c862a92";
 
-/// Copies of V1: the most bytes of a read, after how many the reader and the writer fail, the limit, and what the copy
-/// says and how many bytes of V1 were sent.
+/// Copies of V1: the most bytes of a read, after how many the reader and the writer fail, and the limit. Then what the
+/// copy says and how many bytes of V1 were sent.
 const COPIES: &str = "\
 1000 - - 454 > digest 454
 1 - - 454 > digest 454

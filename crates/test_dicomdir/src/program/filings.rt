@@ -11,8 +11,8 @@ use dicomdir::{Choice, Filed, file_image, merge_engine};
 use std::alloc::Global;
 use std::test::Fail;
 
-/// Images, V1 or a text: the most bytes of a read, after how many the reader and the writer fail, the limit, and how
-/// the directory that plans the image differs from V1's; the outcome, and how many bytes were sent. The name of a
+/// Images, V1 or a text: the most bytes of a read, after how many the reader and the writer fail, and the limit. Then
+/// how the directory that plans the image differs from V1's, the outcome, and how many bytes were sent. The name of a
 /// patient is not compared.
 const FILINGS: &str = "\
 v1 1000 - - 454 - > AsPlanned 454

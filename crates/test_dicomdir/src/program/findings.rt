@@ -5,8 +5,8 @@ use dicomdir::{Finding, finding_of};
 use std::alloc::Global;
 use std::test::Fail;
 
-/// The elements of records: a File ID, a blank one, and two that are none; a File ID with V1's digest, with another
-/// one, with one of another creator, and with one that is too short; and none of these.
+/// The elements of records: a File ID, a blank one, and two names that are no File ID. A File ID with V1's digest,
+/// another one, one of another creator, and one too short. Then none of these.
 const RECORDS: &str = "\
 named 04000015 4353 0400 'IM1_
 blank 04000015 4353 0400 '____
@@ -26,8 +26,8 @@ const DIGESTS: &str = "\
 900e75e1c153f87b21e09f9db68aef627f2dd320eb3afb1f2574594e6c862a92 \
 aaaaaaaaaaaaaaaaaaaaaaaaaaaaaaaaaaaaaaaaaaaaaaaaaaaaaaaaaaaaaaaa";
 
-/// Whether a record is in use, which it is, the most bytes of a read of V1, or 0 where it can't be opened, after how
-/// many it fails, how many it may have, and what is found.
+/// Whether a record is in use, which it is, the most bytes of a read of V1 (0 where it can't be opened), and after how
+/// many it fails. Then how many it may have, and what is found.
 const FINDINGS: &str = "\
 true named 0 - 454 > Missing
 true first 0 - 454 > Missing

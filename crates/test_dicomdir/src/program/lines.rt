@@ -5,9 +5,9 @@ use dicomdir::{Asked, LineFault, read_words};
 use std::alloc::Global;
 use std::test::Fail;
 
-/// Lines, and what they ask for: the command, the ID and the UID (`-` where none is given), the most bytes, the paths,
-/// the UIDs of images after `without`, the list of names after `from`, and each flag that is set after `with`. Or,
-/// where they are refused, the exit status and whether the text is for the error output.
+/// Lines, and what they ask for: the command, the ID and the UID (`-` where none is given), the most bytes, and the
+/// paths. Then the UIDs of images after `without`, the list of names after `from`, and each flag that is set after
+/// `with`. Or, where they are refused, the exit status and whether the text is for the error output.
 const LINES: &str = "\
 dicomdir index set image.dcm > Index - - 4294967295 set image.dcm
 dicomdir index --id DISC1 --uid 2.25.1 --max-bytes 1000 set image.dcm > Index DISC1 2.25.1 1000 set image.dcm
@@ -34,6 +34,7 @@ dicomdir index set --files0-from list > Index - - 4294967295 set from list
 dicomdir index --files0-from=- set b.dcm a.dcm > Index - - 4294967295 set b.dcm a.dcm from -
 dicomdir index --files0-from '' set > Index - - 4294967295 set from ''
 dicomdir index --dry-run set --quiet image.dcm > Index - - 4294967295 set image.dcm with dry-run with quiet
+dicomdir index --verbose set image.dcm > Index - - 4294967295 set image.dcm with verbose
 dicomdir merge set a > Merge - - 4294967295 set a
 dicomdir merge set --files0-from list > Merge - - 4294967295 set from list
 dicomdir merge --strict --dry-run set a --quiet > Merge - - 4294967295 set a with strict with dry-run with quiet
@@ -50,6 +51,7 @@ dicomdir withdraw set --strict old --quiet 1.2 --dry-run > \
 Withdraw - - 4294967295 set old without 1.2 with strict with dry-run with quiet
 dicomdir check set > Check - - 4294967295 set
 dicomdir check --quiet set > Check - - 4294967295 set with quiet
+dicomdir check --verbose set --quiet > Check - - 4294967295 set with quiet with verbose
 dicomdir check -- --id > Check - - 4294967295 --id
 dicomdir check --keys set > Check - - 4294967295 set with keys
 dicomdir check set --keys > Check - - 4294967295 set with keys
@@ -61,6 +63,7 @@ dicomdir check -- --strict > Check - - 4294967295 --strict
 dicomdir list set > List - - 4294967295 set
 dicomdir list '' > List - - 4294967295 ''
 dicomdir list --long set > List - - 4294967295 set with long
+dicomdir list --verbose set > List - - 4294967295 set with verbose
 dicomdir > 2 true
 dicomdir build --uid 2.25.1 set image.dcm > 2 true
 dicomdir index > 2 true
@@ -186,6 +189,7 @@ fn push_flags(text: &mut String, asked: &Asked) -> Result<(), Fail> {
     push_flag(text, asked.strict, " with strict")?;
     push_flag(text, asked.dry_run, " with dry-run")?;
     push_flag(text, asked.quiet, " with quiet")?;
+    push_flag(text, asked.verbose, " with verbose")?;
     push_flag(text, asked.long, " with long")?;
     push_flag(text, asked.link, " with link")
 }

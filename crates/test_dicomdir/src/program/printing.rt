@@ -27,9 +27,9 @@ fn lines_are_printed_as_far_as_they_go(rt: HostRuntime) -> Result<(), Fail> {
     ask_all(rt.alloc(), PRINTED, printed)
 }
 
-/// A line of 5,000, 5,000 and 9,000 characters is printed to a device: after how many bytes it fails, whether the line
-/// was printed, and how many of its bytes the device holds. The buffer has room for the first or the second, but not
-/// for both, nor for the third.
+/// A line of 5,000, 5,000 and 9,000 characters is printed to a device. Each case has after how many bytes it fails,
+/// whether the line was printed, and how many of its bytes the device holds. The buffer has room for the first or the
+/// second, but not for both, nor for the third.
 const LONG: &str = "\
 20000 > true 19001
 19001 > true 19001

@@ -55,7 +55,7 @@ fn refuse_each(alloc: Global, call: Call) -> Result<(), Fail> {
     Err("the call has more allocations than are refused".into())
 }
 
-/// Fails where the files are not those of the disc with these words.
+/// Fails where the files differ from the disc with these words.
 fn require_files(alloc: Global, files: &MemFiles, words: &str) -> Result<(), Fail> {
     let wanted = if words.is_empty() {
         disc(alloc)?
@@ -302,7 +302,7 @@ fn allocations_of_a_run(rt: HostRuntime) -> Result<(), Fail> {
     refuse_each(rt.alloc(), Call::Index)
 }
 
-/// Runs a line with a mistake and a control character: the status is that of a line at fault, or of lack of memory.
+/// Runs a line with a mistake and a control character: the status is for a line at fault, or for lack of memory.
 fn mistake_refused(alloc: Global, chosen: u32) -> Result<bool, Fail> {
     let mut files = disc(alloc)?;
     let words = words_of(alloc, "dicomdir list a b\u{1b}")?;

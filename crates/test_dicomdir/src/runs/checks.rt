@@ -5,8 +5,8 @@ use dd_vectors::ask_all;
 use std::test::Fail;
 
 /// What is on the disc beside the rest, the line, its status, what both outputs hold, and whether some file has
-/// changed: file-sets as they should be; each finding; several in one run; directories that can't be read; and
-/// outputs that fail.
+/// changed. File-sets as they should be; each finding; several in one run; directories that can't be read; and outputs
+/// that fail.
 const CHECKS: &str = "\
 d=set: - - dicomdir check d > 0 [OK 4 records|] [] kept
 d=set: - - dicomdir check d/ > 0 [OK 4 records|] [] kept
@@ -64,7 +64,7 @@ fn sets_are_checked(rt: HostRuntime) -> Result<(), Fail> {
     ask_all(rt.alloc(), CHECKS, ran)
 }
 
-/// File-sets of five images in one series, of which the second and the fifth are damaged: all others are as they were;
+/// File-sets of five images in one series, of which the second and the fifth are damaged. All others are as they were;
 /// the third is missing; the output fails in the first finding; or the records have another Patient ID. The findings
 /// stand in the order of the records.
 const FIVE: &str = "\
@@ -107,8 +107,8 @@ fn findings_stand_in_the_order_of_the_records(rt: HostRuntime) -> Result<(), Fai
     ask_all(rt.alloc(), FIVE, ran)
 }
 
-/// What `check --keys` finds in a file-set of another program whose image is a.dcm with other bytes at a place: every
-/// fault of a file but OtherSyntax, and every fault of a data set but TooDeep and Memory.
+/// What `check --keys` finds in a file-set of another program whose image is a.dcm with other bytes at a place. It
+/// finds every fault of a file but OtherSyntax, and of a data set but TooDeep and Memory.
 const FAULTS: &str = "\
 128,'X > 21 NotPart10
 140,ffff0100 > 22 GroupLength
@@ -197,9 +197,9 @@ fn files_are_compared_with_their_records(rt: HostRuntime) -> Result<(), Fail> {
     ask_all(rt.alloc(), KEYS, ran)
 }
 
-/// Runs `check --strict` on file-sets whose records have digests, on some of another program, whose image is in use
-/// where the flag at 674 says so, and on one whose digest is of another creator. An image that was cut has no other
-/// finding but with `--keys`.
+/// Runs `check --strict` on file-sets whose records have digests, on some of another program, and on one whose digest
+/// is of another creator. The other program's image is in use where the flag at 674 says so. An image that was cut has
+/// no other finding but with `--keys`.
 const STRICT: &str = "\
 d=set: - - dicomdir check --strict d > 0 [OK 4 records|] [] kept
 d/DICOMDIR=empty: - - dicomdir check --strict d > 0 [OK 0 records|] [] kept

@@ -8,9 +8,8 @@ use std::test::Fail;
 
 const INDEX: &str = "index out a.dcm --uid 2.25.0";
 
-/// The range of bytes after which writes fail in an index of V1, which has 454 bytes, and how each such run ends: the
-/// status, what both outputs hold, and what is there of the image and of the directory. A `front` has what was written
-/// of it.
+/// The range of bytes after which writes fail in an index of V1, which has 454 bytes. Then the status of each such run,
+/// what both outputs hold, and what is there of the image and of the directory. A `front` has what was written of it.
 const UNSENT: &str = "\
 0 453 > 1 [] [FAULT out/PT000001/ST000001/SE000001/IM000001: 96 Unsent|] front none
 454 1329 > 1 [] [FAULT out/DICOMDIR: 96 Unsent|] whole front
@@ -40,8 +39,8 @@ const REFUSED: &str = "\
 8: merge o2 d1 --uid 2.25.0 > 0 [DONE 1 instances, 876 bytes|] [] whole whole
 1: check d1 > 0 [OK 4 records|] [] whole whole";
 
-/// A file, which opening of it has the reader that fails, the range of bytes after which it does, the line, and how
-/// each such run ends, with what is in its folder then. A `front` has at most as many bytes as were read.
+/// A file, which opening of it has the reader that fails, the range of bytes after which it does, and the line. Then
+/// how each such run ends, and with what in its folder. A `front` has at most as many bytes as were read.
 const UNREAD: &str = "\
 a.dcm 1 0 454: index out a.dcm --uid 2.25.0 > 1 [] [FAULT a.dcm: 93 Unread|] none none
 a.dcm 2 0 453: index out a.dcm --uid 2.25.0 > 1 [] [FAULT a.dcm: 93 Unread|] front none

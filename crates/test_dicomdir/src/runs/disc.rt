@@ -22,7 +22,7 @@ x.dcm 0002,0010 UI '1.2.840.10008.1.2.2~";
 
 pub(crate) const FIRST_IMAGE: &str = "out/PT000001/ST000001/SE000001/IM000001";
 
-/// Makes a disc with images, V1 with pixel data in fragments, which is f.dcm, a part of V1, a text, a folder that has a
+/// Makes a disc with images, V1 with pixel data in fragments (f.dcm), a part of V1, a text, a folder that has a
 /// directory, and one that has an image.
 pub(crate) fn disc(alloc: Global) -> Result<MemFiles, Fail> {
     let mut files = MemFiles::new(alloc);
@@ -44,9 +44,8 @@ fn put_others(alloc: Global, files: &mut MemFiles) -> Result<(), Fail> {
     put_lists(files)
 }
 
-/// Puts lists of names: two whose names are there, the second without its last zero byte; one whose second name is
-/// empty, one whose second name is not UTF-8, and one without a name; one that names a file that is not there, and two
-/// sets.
+/// Puts lists of names. The names of two are there, and the second list is without its last zero byte. Of one a name is
+/// empty, of one a name is not UTF-8, and one has no name. One names a file that is not there, and one names two sets.
 fn put_lists(files: &mut MemFiles) -> Result<(), Fail> {
     files.put("two", b"a.dcm\0d.dcm\0")?;
     files.put("open", b"d.dcm\0a.dcm")?;
@@ -64,10 +63,9 @@ pub(crate) fn disc_with(alloc: Global, words: &str) -> Result<MemFiles, Fail> {
     Ok(files)
 }
 
-/// Puts more files by words. `path=name` takes the bytes of a file that is there, or `first` for the directory that has
-/// V1 alone, `empty` for the directory of nothing, `v3` for another tool's or `deep` for one of 33 levels, with `,`
-/// before each offset and each word of bytes that are put there. `folder=set` puts the directory that has V1 alone, and
-/// V1.
+/// Puts more files by words. `path=name` takes the bytes of a file that is there, or of a directory: `first` has V1
+/// alone, `empty` nothing, `v3` is another tool's, and `deep` has 33 levels. A `,` stands before each offset and each
+/// word of bytes that are put there. `folder=set` puts the directory that has V1 alone, and V1.
 pub(crate) fn put_files(alloc: Global, files: &mut MemFiles, words: &str) -> Result<(), Fail> {
     for word in words.split(' ') {
         match word.split_once('=').ok_or("no name")? {

@@ -2,8 +2,8 @@ use crate::runs::scripts::ran;
 use dd_vectors::ask_all;
 use std::test::Fail;
 
-/// Cases of `ran`: directories of this tool and of another; values that do not print, or of which nothing is left;
-/// records of a study without its UID, of a patient whose ID holds items, and of an unknown type; records that no
+/// Cases of `ran`: directories of this tool and of another; values that do not print, or of which nothing is left.
+/// Records of a study without its UID, of a patient whose ID holds items, and of an unknown type. Records that no
 /// offset reaches; refusals; and outputs that fail.
 const LISTS: &str = "\
 d/DICOMDIR=v3: - - dicomdir list d > 0 [320 PATIENT P1|  412 STUDY 1.2.3|    546 SERIES 1.2.3.4\

@@ -153,8 +153,8 @@ fn merges_say_what_is_noted(rt: HostRuntime) -> Result<(), Fail> {
     ask_all(rt.alloc(), NOTED, ran)
 }
 
-/// Steps, a line, and a step that leaves the same files: sets in any order and number, and their sources; the first
-/// place of an image, by the File ID that the set has for it; and what stays after a refusal.
+/// Steps, a line, and a step that leaves the same files: sets in any order and number, and their sources. Then the
+/// first place of an image, by the File ID that the set has for it, and what stays after a refusal.
 const SAME: &str = "\
 d1=set: merge o d1 d1 --uid 2.25.0 > o=set
 index d1 a.dcm b.dcm --uid 2.25.0: merge o2 d1 d1 --uid 2.25.0 > o2=set

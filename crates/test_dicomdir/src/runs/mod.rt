@@ -2,6 +2,7 @@ mod allocations;
 mod checks;
 mod devices;
 mod disc;
+mod hints;
 mod images;
 mod lists;
 mod merges;

@@ -60,8 +60,8 @@ fn withdrawals_say_how_they_ended(rt: HostRuntime) -> Result<(), Fail> {
 }
 
 /// Cases of `ran` where a set lists what it withdraws: d3 withdraws 1.2.3.4.5 and lists it, and 1.2.3.4.6 stands in a
-/// record of d4 that is not reached. With `--strict` a line names each image that a set withdraws, except those of the
-/// UIDs of the line.
+/// record of d4 that is not reached. With `--strict` a line names each image that a set withdraws, except where the
+/// command line gives its UID.
 const LISTED: &str = "\
 - - dicomdir merge o d3 --uid 2.25.0 > 0 [DONE 0 instances, 362 bytes|] [] changed
 - - dicomdir merge o d3 --strict > 1 [NOTE d3/PT000001/ST000001/SE000001/IM000001: withdrawn in d3: 1.2.3.4.5|] \
@@ -91,8 +91,8 @@ fn withdrawals_name_what_a_set_lists(rt: HostRuntime) -> Result<(), Fail> {
     ask_all(rt.alloc(), LISTED, ran_over_listed)
 }
 
-/// Steps, a line, and a step that leaves the same files: what one set withdraws no merge brings back, in any order and
-/// through any others, and neither does a set that lists it again.
+/// Steps, a line, and a step that leaves the same files. What one set withdraws no merge brings back, in any order and
+/// through any others. Neither does a set that lists it again.
 const SAME: &str = "\
 d1=set; withdraw o4 d1 1.2.3.4.5 --uid 2.25.0: merge o5 d1 o4 --uid 2.25.0 > o5/DICOMDIR=o4/DICOMDIR
 d1=set; withdraw o4 d1 1.2.3.4.5 --uid 2.25.0: merge o5 o4 d1 d1 --uid 2.25.0 > o5/DICOMDIR=o4/DICOMDIR

@@ -31,17 +31,17 @@ const CUT_LONG: &str = "\
 /// Where V1 can be cut: after its group 0002, and after each element of its data set.
 const ENDS: &str = "276 310 328 344 358 368 384 394 408 424 434 444 454";
 
-/// V1 with other bytes from an offset on: in the preamble, in the prefix, in the header of the group length and in that
-/// of another element of group 0002.
+/// V1 with other bytes from an offset on: in the preamble, in the prefix, in the header of the group length and in
+/// another header of group 0002.
 const CHANGED: &str = "\
 0 'any_preamble > taken
 128 'd > 21 NotPart10
 136 'OB > 22 GroupLength
 148 'ZZ > 26 Meta 3 BadVr";
 
-/// V1 with other elements: group lengths that stop before the last element of group 0002, take in the first of the data
-/// set, or exceed 65,536; each required UID absent, and (0002,0001), which may be; values that are no UID, and items;
-/// transfer syntaxes: big endian, one of JPEG that is not read, deflated, RLE, JPEG 2000.
+/// V1 with other elements. Group lengths stop before the last element of group 0002, take in the first of the data set,
+/// or exceed 65,536. Each required UID is absent, and (0002,0001), which may be. Values are no UID, or items. Transfer
+/// syntaxes are big endian, one of JPEG that is not read, deflated, RLE, and JPEG 2000.
 const OTHER: &str = "\
 0002,0000 UL 5e000000 > 22 GroupLength
 0002,0000 UL a6000000 > 22 GroupLength

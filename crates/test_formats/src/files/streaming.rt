@@ -6,9 +6,9 @@ use dd_vectors::{ByteSource, ask_all, reader_of, tag_of, tags_of, text_of, v1};
 use std::alloc::Global;
 use std::test::Fail;
 
-/// Reads of V1, which has 454 bytes, with other bytes at an offset: the offset, the bytes, the most bytes of a read,
-/// the limit, after how many bytes the reader fails, and the wanted tags. The bytes are one of the preamble, unchanged,
-/// one of the prefix, and the group of the first element of the data set.
+/// Reads of V1 (454 bytes): the offset of other bytes, these, the most bytes of a read, the limit, after how many the
+/// reader fails, and the wanted tags. The other bytes are one of the preamble, unchanged, one of the prefix, and the
+/// group of the first element of the data set.
 const READS: &str = "\
 0 00 1 454 - 0010,0020 > as parsed; (0010,0020) 'P1 2
 0 00 7 454 - 0010,0020 > as parsed; (0010,0020) 'P1 2
@@ -43,7 +43,7 @@ v1 encapsulated > as parsed; (0010,0020) 'P1 2; (7FE0,0010) fragments
 v2 > as parsed; (0004,1220) items
 first directory > as parsed; (0004,1220) items";
 
-/// V1 with private information in group 0002: the length of the group, and of that information; and the size of the
+/// V1 with private information in group 0002: the length of the group, and of that information. Then the size of the
 /// file, the offset of its data set and what is read of it. A group of up to 1,024 bytes is read into a smaller buffer.
 const LONG_GROUPS: &str = "\
 1024 862 > 1346 1168 as parsed; (0010,0020) 'P1 2

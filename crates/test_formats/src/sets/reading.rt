@@ -6,9 +6,9 @@ use dd_vectors::{ask_all, tag_of, text_of};
 use std::alloc::Global;
 use std::test::Fail;
 
-/// Data sets, and what they hold: one element in both syntaxes, none, a sequence of both forms of length,
-/// one of unknown value representation, whose items are in Implicit VR, one in Implicit VR, and two items
-/// after another element.
+/// Data sets, and what they hold: one element in both syntaxes, none, and a sequence of both forms of length. Then one
+/// of unknown value representation, whose items are in Implicit VR, one in Implicit VR, and two items after another
+/// element.
 const SETS: &str = "\
 explicit 10002000 4c4f 0200 5031 > (0010,0020) LO 'P1
 implicit 10002000 02000000 5031 > (0010,0020) - 'P1
@@ -54,8 +54,8 @@ feff0de0 00000000 feffdde0 00000000 > \
 (0009,1001) UN Undefined Undefined [(0010,0020) - 'P1]
 encapsulated 10002000 4c4f 0200 5031 > (0010,0020) LO 'P1";
 
-/// The sets of the first table, their sizes in Explicit, in Implicit VR and in an encapsulated syntax, and where the
-/// items of the last element start in the spelling that was read.
+/// The sets of the first table, and their sizes in Explicit, in Implicit VR and in an encapsulated syntax. Then where
+/// the items of the last element start in the spelling that was read.
 const SIZES: &str = "\
 explicit 10002000 4c4f 0200 5031 > Some(10) None Some(10), None
 implicit 10002000 02000000 5031 > None Some(10) None, None

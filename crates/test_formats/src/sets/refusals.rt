@@ -7,10 +7,9 @@ use dd_vectors::{ByteSource, ask_all};
 use std::alloc::Global;
 use std::test::Fail;
 
-/// One element cut short at each byte; elements out of order, letters that name nothing, reserved bytes,
-/// odd lengths, an undefined length without a sequence, tags of items out of place, an element where an
-/// item has to begin, delimiters with a length, and an item and an element past the end of what holds
-/// them.
+/// One element cut short at each byte. Elements out of order, letters that name nothing, reserved bytes, odd lengths,
+/// and an undefined length without a sequence. Tags of items out of place, an element where an item has to begin, and
+/// delimiters with a length. An item and an element past the end of what holds them.
 const REFUSED: &str = "\
 explicit 10 > 1 Truncated
 explicit 1000 > 1 Truncated
@@ -35,9 +34,9 @@ explicit 08004011 5351 0000 ffffffff feff00e0 ffffffff feff0de0 02000000 > 8 Bad
 explicit 08004011 5351 0000 08000000 feff00e0 02000000 > 9 Overrun
 explicit 08004011 5351 0000 12000000 feff00e0 0a000000 10002000 4c4f 0400 5031 > 9 Overrun";
 
-/// Pixel data in fragments. First a length that is odd, undefined or past the end of the bytes, other tags than that
-/// of an item, and the end of a list with a length. Then an item that ends before the mark or within a fragment, and
-/// an odd length where it ends. Last elements after the pixel data that are out of order.
+/// Pixel data in fragments. First a length that is odd, undefined or past the end of the bytes, other tags than an
+/// item's, and the end of a list with a length. Then an item that ends before the mark or within a fragment, and an odd
+/// length where it ends. Last elements after the pixel data that are out of order.
 const FRAGMENTS: &str = "\
 encapsulated e07f1000 4f42 0000 ffffffff feff00e0 00000000 feff00e0 03000000 ff4fff51 feffdde0 00000000 > 5 OddLength
 encapsulated e07f1000 4f42 0000 ffffffff feff00e0 00000000 feff00e0 ffffffff ff4fff51 feffdde0 00000000 > \

@@ -38,8 +38,8 @@ const FAULTY: &str = "\
 /// Where the elements of the data set of V1 end.
 const ENDS: &str = "0 34 52 68 82 92 108 118 132 148 158 168 178";
 
-/// The numbers of `A`, of spaces and of `B` in a Patient ID, in this order, and what a scan says of it: how many
-/// bytes are kept and end in which one, and how many there are without the padding.
+/// The numbers of `A`, of spaces and of `B` in a Patient ID, in this order. Then what a scan says: how many bytes are
+/// kept and end in which one, and how many there are without the padding.
 const LONG: &str = "\
 1024 4 2 > 1024 A 1030
 1023 1 2 > 1024 _ 1026

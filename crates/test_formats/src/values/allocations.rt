@@ -1,5 +1,5 @@
 //! Each allocation of each call refused in turn: the call lacks memory, nothing has changed, and made again it answers.
-//! The keys and the writer are those of the tables of keys and of writers.
+//! The keys and the writer are from the tables of keys and of writers.
 
 use dd_elem::{Key, KeyRefused, Write};
 use dd_vectors::{Sink, allocation_numbers, refuse_allocation, require, was_refused};

@@ -1,6 +1,6 @@
-//! The words of cases, by which every other test asks and compares: an answer that is not the one of the case
-//! has to make it another text, and a case that is wrong has to fail. A reader gives the pieces that its
-//! question asks for, which no answer of a parser shows.
+//! The words of cases, by which every other test asks and compares. An answer that is not the one of the case has to
+//! make it another text, and a case that is wrong has to fail. A reader gives the pieces that its question asks for,
+//! which no answer of a parser shows.
 
 use dd_elem::Read;
 use dd_vectors::{answered, ask_all, claim_all, question, reader_of};

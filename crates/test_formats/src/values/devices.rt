@@ -15,7 +15,7 @@ const READERS: &str = "\
 2 0 > - - - -
 2 5 > AB CD E -";
 
-/// A writer that fails after this many bytes, and what three writes of `ABC` come to: how many bytes each
+/// A writer that fails after this many bytes, and what three writes of `ABC` give: how many bytes each
 /// took, what it holds, and what it hands out.
 const WRITERS: &str = "\
 - > 3 3 3 ABCABCABC then ABCABCABC

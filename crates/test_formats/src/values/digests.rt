@@ -50,7 +50,7 @@ fn message(alloc: Global, len: u32, seed: u8) -> Result<Vec<u8>, Fail> {
     Ok(bytes)
 }
 
-/// Are the digests of four messages with these lengths those of `sha2`?
+/// Are four messages with these lengths digested as by `sha2`?
 fn are_digests(alloc: Global, a: u32, b: u32, c: u32, d: u32) -> Result<bool, Fail> {
     let a = message(alloc, a, 1)?;
     let b = message(alloc, b, 2)?;

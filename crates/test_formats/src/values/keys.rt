@@ -76,14 +76,14 @@ fn want_of_memory_in_words(rt: HostRuntime) -> Result<(), Fail> {
     Ok(())
 }
 
-/// How two keys stand, and how they stand the other way round.
+/// Compares two keys, and then the second with the first.
 fn order_of_keys(alloc: Global, left: &str, right: &str) -> Result<(Ordering, Ordering), Fail> {
     let left = key_of(alloc, left)?;
     let right = key_of(alloc, right)?;
     Ok((left.compare(&right), right.compare(&left)))
 }
 
-/// The same of UIDs.
+/// Compares two UIDs, and then the second with the first.
 fn order_of_uids(left: &str, right: &str) -> Result<(Ordering, Ordering), Fail> {
     let left = Uid::new(left.as_bytes())?;
     let right = Uid::new(right.as_bytes())?;

@@ -7,8 +7,8 @@ use dd_vectors::{ByteSource, ask_all, push_bytes, v1, v1_encapsulated, v1_with};
 use std::alloc::Global;
 use std::test::Fail;
 
-/// The most bytes of a read, after how many the reader fails, the limit, and the file: V1 of 454 bytes, whole or its
-/// front of the given length, V1 with pixel data in fragments, of 496 bytes, or V1 with other elements. A failure and
+/// The most bytes of a read, after how many the reader fails, the limit, and the file. It is V1 (454 bytes), whole or
+/// its front of the given length, V1 with pixel data in fragments (496 bytes), or V1 with other elements. A failure and
 /// one byte more than the limit come before every check, wherever it fails.
 const READ: &str = "\
 1 1000 454 whole > taken
@@ -83,7 +83,7 @@ fn file_of(alloc: Global, name: &str) -> Result<Vec<u8>, Fail> {
     Ok(bytes)
 }
 
-/// Says `taken` where the version is that of the bytes, or the fault.
+/// Says `taken` where the bytes have this version, or the fault.
 fn outcome(alloc: Global, bytes: &[u8], answer: Result<Version, KeyFault>) -> Result<String, Fail> {
     match answer {
         Ok(version) => {
@@ -130,7 +130,7 @@ fn a_reader_gives_the_version_of_its_bytes(rt: HostRuntime) -> Result<(), Fail> 
     ask_all(rt.alloc(), READ, ingested)
 }
 
-/// The most bytes of a read, and the range of bytes after which the reader of V1 fails: the outcome with each such
+/// The most bytes of a read, and the range of bytes after which the reader of V1 fails. Then the outcome with each such
 /// reader, where the limit is the 454 bytes of V1.
 const UNREAD: &str = "\
 1 0 454 > 38 Read

@@ -5,8 +5,8 @@ use std::alloc::Global;
 use std::cmp::Ordering;
 use std::test::Fail;
 
-/// V1 with other values, and what does not fit: each key empty that has to be there, another class, other transfer
-/// syntaxes; then the least tag where two do not fit; then parts that fit.
+/// V1 with other values, and what does not fit: each key empty that has to be there, another class, and other transfer
+/// syntaxes. Then the least tag where two do not fit; then parts that fit.
 const MISFITS: &str = "\
 0008,0020 ' > (0008,0020) does not fit
 0008,0030 ' > (0008,0030) does not fit

@@ -39,9 +39,9 @@ const CUT: &str = "\
 445 453 > 31 File 27 Set 1 Truncated
 454 454 > taken 1 1 1";
 
-/// V1 with other elements: keys that are no UID, empty, sequences or absent, and UIDs that are not those of group 0002;
-/// another value representation, which is free, and an absent name; the class of a report in group 0002, alone and with
-/// a key that is refused too; three keys that are refused.
+/// V1 with other elements: keys that are no UID, empty, sequences or absent, and UIDs that differ from group 0002.
+/// Another value representation, which is free, and an absent name. The class of a report in group 0002, alone and with
+/// a key that is refused too. Three keys that are refused.
 const OTHER: &str = "\
 0020,000D UI '1..2.3 > 34 BadKeyUid (0020,000D)
 0020,000D UI '~~ > 33 MissingKey (0020,000D)

@@ -1,4 +1,4 @@
--- The catalogue of what was gathered is planned, and its picks are those of the plan's images.
+-- The catalogue of what was gathered is planned, and its picks are the picks of the plan's images.
 use Rattle.std.proofs.Common.{List, Err, ap, ap₂, map, refl, subst, sym, ◌∙◌, ◌++◌}
 use Rattle.dd_catalogue.specs.Contents.{Contents}
 use Rattle.dd_version.specs.declared.parts.Parts.{Parts}

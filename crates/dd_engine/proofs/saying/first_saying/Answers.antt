@@ -1,4 +1,4 @@
--- The pick is that of the image whose version is the first that is filed as the planned one.
+-- The pick is the file of the first image whose version is filed as the planned one.
 use Rattle.std.proofs.Common.{◌<◌, ℕ, Ok, Some, map, refl, subst}
 use Rattle.std.proofs.lemmas.List.{length-map}
 use Rattle.dd_engine.proofs.FirstSaying.{answer_within, first_place, no_place}

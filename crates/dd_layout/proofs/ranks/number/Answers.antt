@@ -7,7 +7,7 @@ use Rattle.dd_layout.proofs.NumberPass.{numbered_from}
 use Rattle.dd_layout.proofs.Ranked.{files_numbered, numbered_all, pass_numbered}
 use Rattle.dd_layout.proofs.ranks.number.Goals as goal
 
--- after the last record the records are those of the whole pass
+-- after the last record the records are the records of the whole pass
 numbered_at_end : (c : goal.After-loop-record)
     → c.loop-record.records ≡ numbered_from (counters_of 0 0 0 0) c.args.records.now
 numbered_at_end c =

@@ -1,4 +1,4 @@
--- What is judged of the file comes to the report.
+-- What is judged of the file goes into the report.
 use Rattle.std.proofs.Common.{◌∙◌, refl}
 use Rattle.dd_dir.specs.ForestViews.{tree_view}
 use Rattle.dd_report.specs.Agreements.{standing_below}

@@ -1,4 +1,4 @@
--- The words are those of the fault.
+-- The words are the fault's.
 use Rattle.dd_report.proofs.words.tell_fault.Goals as goal
 
 pub returns-in-GroupLength-clause-written : goal.returns-in-GroupLength-clause-written

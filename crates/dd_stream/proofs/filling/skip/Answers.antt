@@ -1,4 +1,4 @@
--- What is let go comes after what was let go.
+-- What is skipped comes after what was skipped before.
 use Rattle.std.proofs.Common.{◌++◌, arith}
 use Rattle.std.proofs.lemmas.List.{length-append}
 use Rattle.dd_stream.proofs.filling.skip.Goals as goal

@@ -1,4 +1,4 @@
--- The path of the one set is among those of some.
+-- The one set's path is among the paths.
 use Rattle.dicomdir.proofs.FirstPaths.{of_some}
 use Rattle.dicomdir.proofs.merging.run_withdraw.Goals as goal
 

@@ -1,4 +1,4 @@
--- Each digest comes to its version, and then none is open.
+-- Each version gets its digest, and then none is open.
 use Rattle.std.proofs.Common.{length-set, ◌∙◌, arith}
 use Rattle.dd_engine.proofs.Settling.{one_more_of, settled}
 use Rattle.dd_engine.proofs.batch.Batch.settle.Goals as goal

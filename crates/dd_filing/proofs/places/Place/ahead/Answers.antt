@@ -1,4 +1,4 @@
--- The bytes before a failure, which were not hashed as they came.
+-- The bytes before a failure, which the slot kept and did not hash.
 use Rattle.std.proofs.Common.{refl}
 use Rattle.dd_filing.proofs.Knowing.{unread_ahead}
 use Rattle.dd_filing.proofs.places.Place.ahead.Goals as goal

@@ -1,4 +1,4 @@
--- The bytes are those that the reader gave, unless they were hashed as they came.
+-- The bytes are the ones that the reader gave, unless they were hashed during the read.
 use Rattle.dd_filing.proofs.Knowing.{read_whole}
 use Rattle.dd_filing.proofs.places.Place.read.Goals as goal
 

@@ -1,4 +1,4 @@
--- The map's bytes at the path are those of the list of files.
+-- The map and the list of files have the same bytes at the path.
 use Rattle.std.proofs.Common.{ℕ, List, Some, ap, sym, ◌∙◌}
 use Rattle.std.specs.Prelude.{option_map}
 use Rattle.dd_mem_files.proofs.Stored.{lookup-listed}

@@ -4,7 +4,7 @@ use Rattle.std.specs.Prelude.{string_bytes}
 use Rattle.std.proofs.lemmas.List.{length-map}
 use Rattle.dd_line.specs.Line.{words_of}
 use Rattle.dicomdir.proofs.EngineMade.{done_indexes}
-use Rattle.dicomdir.proofs.index.run_index.Goals as goal
+use Rattle.dicomdir.proofs.index.index_sources.Goals as goal
 
 pub returns-clause-made : goal.returns-clause-made
 returns-clause-made g c = λ makes.

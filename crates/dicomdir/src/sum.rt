@@ -1,0 +1,140 @@
+//! What became of the sources of an index, for a person.
+ghost use Rattle.std.specs.Prelude.{◌≡◌};
+ghost use Rattle.dicomdir.specs.Sum.{CountsSources};
+
+use dd_engine::NotedIndex;
+use dd_files::{Files, Hints};
+use dd_keys::KeyFault;
+use itoa::Buffer;
+
+/// What to do first about a source that is skipped for a fault, by its number.
+const FIRST_STEPS: [&str; ROWS] = [
+    "31: dcmconv IN OUT writes such a file anew, where dcmdump IN can read it",
+    "32: make their file-set with another program; a DICOMDIR is no image",
+    "33: mend it where it was made: a record needs this key",
+    "34: mend it where it was made: this key has to be a UID",
+    "35: mend it where it was made: a key has at most 1024 bytes",
+    "36: mend it where it was made: this key has to be a value",
+    "37: dcmconv IN OUT writes such a file anew",
+    "39: a file-set has no file of more than 4294967295 bytes",
+];
+
+const ROWS: usize = 8;
+
+/// The most first steps that are shown.
+const MOST: usize = 5;
+
+/// The sources of an index, by what became of them.
+#[derive(Clone, Copy)]
+pub(crate) struct Sum {
+    pub(crate) sources: usize,
+    /// The first source of each image of the file-set.
+    pub(crate) kept: usize,
+    /// The sources without a version.
+    pub(crate) skipped: usize,
+    /// The sources of whose instance other bytes are kept.
+    pub(crate) left_out: usize,
+    /// The others: each repeats a source that is kept.
+    pub(crate) repeated: usize,
+    /// For which of the first steps some source was skipped.
+    rows: [bool; ROWS],
+}
+
+impl Sum {
+    pub(crate) fn new() -> Sum {
+        Sum {
+            sources: 0,
+            kept: 0,
+            skipped: 0,
+            left_out: 0,
+            repeated: 0,
+            rows: [false; ROWS],
+        }
+    }
+
+    pub(crate) fn of(noted: &NotedIndex, sources: usize) -> Sum
+        ensures { CountsSources noted.now sources result }
+    {
+        let kept = noted.indexed.picks.len();
+        let skipped = noted.indexed.skipped.len();
+        let left_out = noted.notes.left_out.len();
+        let others = sources.saturating_sub(kept).saturating_sub(skipped);
+        Sum {
+            sources,
+            kept,
+            skipped,
+            left_out,
+            repeated: others.saturating_sub(left_out),
+            rows: rows_of(&noted.indexed.skipped),
+        }
+    }
+}
+
+fn rows_of(skipped: &[(usize, KeyFault)]) -> [bool; ROWS] {
+    let mut rows = [false; ROWS];
+    for (_, fault) in skipped {
+        if let Some(row) = rows.get_mut(row_of(fault)) {
+            *row = true;
+        }
+    }
+    rows
+}
+
+/// Gives the row of the fault among the first steps. A source is not skipped for the last two faults.
+fn row_of(fault: &KeyFault) -> usize {
+    match fault {
+        KeyFault::File(_) => 0,
+        KeyFault::NotImage(_) => 1,
+        KeyFault::MissingKey(_) => 2,
+        KeyFault::BadKeyUid(_) => 3,
+        KeyFault::KeyTooLong(_) => 4,
+        KeyFault::KeyIsSequence(_) => 5,
+        KeyFault::MetaMismatch(_) => 6,
+        KeyFault::FileTooLong => 7,
+        KeyFault::Read | KeyFault::Memory => ROWS,
+    }
+}
+
+/// Shows what to do about sources that were skipped, and what became of all.
+pub(crate) fn show_sum<F: Files + Hints>(sum: &Sum, files: &mut F)
+    ensures kept { F.held files.new ≡ F.held files.old }
+{
+    show_first_steps(&sum.rows, files);
+    show_counts(sum, files);
+}
+
+fn show_counts<F: Files + Hints>(sum: &Sum, files: &mut F)
+    ensures kept { F.held files.new ≡ F.held files.old }
+{
+    let (mut sources, mut kept, mut skipped) = (Buffer::new(), Buffer::new(), Buffer::new());
+    let (mut left_out, mut repeated) = (Buffer::new(), Buffer::new());
+    files.show_line(&[
+        sources.format(sum.sources),
+        " sources: ",
+        kept.format(sum.kept),
+        " kept, ",
+        skipped.format(sum.skipped),
+        " skipped, ",
+        left_out.format(sum.left_out),
+        " left out, ",
+        repeated.format(sum.repeated),
+        " repeated",
+        if sum.kept == 0 {
+            ": the file-set has no image"
+        } else {
+            ""
+        },
+    ]);
+}
+
+fn show_first_steps<F: Files + Hints>(rows: &[bool; ROWS], files: &mut F)
+    ensures kept { F.held files.new ≡ F.held files.old }
+{
+    let mut left = MOST;
+    for (step, is_met) in FIRST_STEPS.iter().zip(rows.iter()) {
+        if left > 0 && *is_met {
+            files.show_line(&["  help: ", step]);
+            left -= 1;
+        }
+    }
+}
