@@ -25,15 +25,15 @@ help:
 	@echo '  make quick      runs tests without proof, and the commands of README.md (CONTRIBUTING.md)'
 	@echo '  make docs       makes what pages, man pages and completions have of the sources and the help'
 	@echo
-	@echo 'packaging/test tries what is installed. ./dicomdir-build makes the program itself.'
+	@echo 'packaging/test tries what is installed. tools/dicomdir-build makes the program itself.'
 
 # The bytes are those that were built.
 install:
 	@sed -n 's|^program \(.*\)|\1  $(program)|p' $(program).made-from | sha256sum --check --quiet -
 	install -D -m 755 $(program) $(bin)/dicomdir
-	install -m 755 $(scripts) $(bin)
-	install -D -m 644 -t $(share)/dicomdir parts/functions parts/lines
-	install -m 755 parts/slurm-job $(share)/dicomdir/slurm-job
+	install -m 755 $(scripts:%=scripts/%) $(bin)
+	install -D -m 644 -t $(share)/dicomdir scripts/functions scripts/lines
+	install -m 755 scripts/slurm-job $(share)/dicomdir/slurm-job
 	install -D -m 644 docs/dicomdir.1 $(share)/man/man1/dicomdir.1
 	install -m 644 $(scripts:%=docs/%.1) $(share)/man/man1
 	install -D -m 644 packaging/completions/dicomdir.bash $(share)/bash-completion/completions/dicomdir

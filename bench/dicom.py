@@ -43,9 +43,9 @@ def head(sop_class, instance, transfer, more=b""):
     return b"".join([bytes(128), b"DICM", element(2, 0x0000, b"UL", number_of(len(meta))), meta])
 
 
-def directory(items, first, last, length=None, behind=b""):
+def directory(items, first, last, length=None, tail=b""):
     """A directory with these items, the offsets of its first and last root, the length that its sequence tells, and
-    more elements behind that."""
+    more elements after it."""
     return b"".join([
         head(DIRECTORY_CLASS, b"2.25.0", EXPLICIT),
         element(4, 0x1130, b"CS", b""),
@@ -53,12 +53,12 @@ def directory(items, first, last, length=None, behind=b""):
         element(4, 0x1202, b"UL", number_of(last)),
         element(4, 0x1212, b"US", b"\0\0"),
         element(4, 0x1220, b"SQ", items, length),
-        behind,
+        tail,
     ])
 
 
 def record(following, lower, more=b"", kind=b"PATIENT"):
-    """A record that names the next one and the first one below it, with more elements behind its own."""
+    """A record that names the next one and the first one below it, with more elements after its own."""
     return delimited(ITEM, b"".join([
         element(4, 0x1400, b"UL", number_of(following)),
         element(4, 0x1410, b"US", b"\xff\xff"),

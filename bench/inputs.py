@@ -40,7 +40,7 @@ def nested_items(levels):
 
 def with_sequence(items):
     """A directory without records, and with these items in another sequence."""
-    return directory(b"", 0, 0, behind=element(8, 0x1140, b"SQ", items))
+    return directory(b"", 0, 0, tail=element(8, 0x1140, b"SQ", items))
 
 
 def with_records(mores, order=None, kind=b"X"):
@@ -112,16 +112,16 @@ def listed_image(number, key=b"0"):
     ]))
 
 
-def own(rows, behind=b""):
+def own(rows, tail=b""):
     """A directory with these records, each with its level, in the order of the tree."""
     places = list(itertools.accumulate((len(record(0, 0, more, kind)) for _, kind, more in rows), initial=FIRST))
-    # Of each level the offset of the first record behind, with none of a higher level between.
+    # Of each level the offset of the first record after it, with none of a higher level between.
     after, items = [0] * 5, []
     for (level, kind, more), at in zip(reversed(rows), reversed(places[:-1])):
         items.append(record(after[level], after[level + 1], more, kind))
         after[level:] = [at] + [0] * (4 - level)
     roots = [at for (level, _, _), at in zip(rows, places) if level == 0] or [0]
-    return directory(b"".join(reversed(items)), roots[0], roots[-1], behind=behind)
+    return directory(b"".join(reversed(items)), roots[0], roots[-1], tail=tail)
 
 
 def one_series(count, above=None, key=b"0"):
@@ -175,13 +175,13 @@ def short_uids(count):
 
 def withdrawing(value):
     """A directory without records, with this value in the place of its withdrawn UIDs."""
-    return directory(b"", 0, 0, behind=text(9, 0x0010, b"LO", CREATOR) + text(9, 0x1002, b"UC", value))
+    return directory(b"", 0, 0, tail=text(9, 0x0010, b"LO", CREATOR) + text(9, 0x1002, b"UC", value))
 
 
 # Files of images.
 
-def image(number=0, transfer=EXPLICIT, group=b"", before=b"", behind=b"", key=b""):
-    """The smallest image, with more elements in group 0002, before those of the patient, and behind all."""
+def image(number=0, transfer=EXPLICIT, group=b"", before=b"", tail=b"", key=b""):
+    """The smallest image, with more elements in group 0002, before the elements of the patient, and after all."""
     uid = b"1.%d" % number
     return b"".join([
         head(CT_CLASS, uid, transfer, group),
@@ -190,7 +190,7 @@ def image(number=0, transfer=EXPLICIT, group=b"", before=b"", behind=b"", key=b"
         text(8, 0x0060, b"CS", key), text(8, 0x1030, b"LO", key), before,
         text(0x10, 0x0010, b"PN", key), text(0x10, 0x0020, b"LO", key),
         text(0x20, 0x000D, b"UI", b"2.0"), text(0x20, 0x000E, b"UI", b"3.0"), text(0x20, 0x0010, b"SH", key),
-        text(0x20, 0x0011, b"IS", key), text(0x20, 0x0013, b"IS", key), behind,
+        text(0x20, 0x0011, b"IS", key), text(0x20, 0x0013, b"IS", key), tail,
     ])
 
 

@@ -14,7 +14,7 @@ import sys
 import tempfile
 import time
 
-# What is typed behind 'dicomdir ', or where it begins so in place of that, and what stands there behind Tab. The folder
+# What is typed after 'dicomdir ', or where it begins so in place of that, and what stands there after Tab. The folder
 # has the files 'one.dcm' and 'only file', and the folders 'one' and 'two folders'.
 CASES = [
     ("wi", "withdraw "),
@@ -38,6 +38,7 @@ CASES = [
     ("check --keys two\\ f", "check --keys two\\ folders/"),
     ("list on", "list one/"),
     ("list --l", "list --long "),
+    ("list --v", "list --verbose "),
     ("list onl", "list onl"),
     ("help li", "help list "),
     ("dicomdir-parallel --ho", "dicomdir-parallel --hosts "),
@@ -109,14 +110,14 @@ def wait_for(terminal, is_there):
 
 
 def complete(words, environment, room, typed):
-    """What stands on the line behind Tab."""
+    """What stands on the line after Tab."""
     said = os.path.join(room, "said")
     shell, ours = pty.fork()
     if shell == 0:
         os.execvpe(words[0], words, environment)
     wait_for(ours, lambda shown: b"READY> " in shown)
-    behind = "" if typed.startswith("dicomdir") else "dicomdir "
-    os.write(ours, behind.encode() + typed.encode() + b"\t\x18d")
+    prompted = "" if typed.startswith("dicomdir") else "dicomdir "
+    os.write(ours, prompted.encode() + typed.encode() + b"\t\x18d")
     wait_for(ours, lambda shown: os.path.exists(said))
     with open(said, encoding="utf-8") as file:
         line = file.read().rstrip("\n")
@@ -124,7 +125,7 @@ def complete(words, environment, room, typed):
     os.kill(shell, signal.SIGKILL)
     os.waitpid(shell, 0)
     os.close(ours)
-    return line.removeprefix(behind)
+    return line.removeprefix(prompted)
 
 
 def main():

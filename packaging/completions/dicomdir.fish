@@ -28,11 +28,13 @@ complete -c dicomdir -n '__fish_seen_subcommand_from index merge withdraw' -l st
 complete -c dicomdir -n '__fish_seen_subcommand_from index merge withdraw' -l dry-run \
     -d 'Makes nothing, and says what it would make'
 complete -c dicomdir -n '__fish_seen_subcommand_from index merge withdraw check' -l quiet \
-    -d 'Shows no progress'
+    -d 'Shows no progress and no hints'
+complete -c dicomdir -n '__fish_seen_subcommand_from index merge withdraw check list' -l verbose \
+    -d 'Shows hints where there is no terminal, too'
 complete -c dicomdir -n '__fish_seen_subcommand_from index merge' -l files0-from -r -F \
     -d 'Reads names from FILE, or -, ended by zero bytes'
 complete -c dicomdir -n '__fish_seen_subcommand_from merge' -l link \
-    -d 'Gives images second names in place of copies'
+    -d 'Makes hard links to the images in place of copies'
 complete -c dicomdir -n '__fish_seen_subcommand_from check' -l keys \
     -d 'Also compares what each image says of itself with its record'
 complete -c dicomdir -n '__fish_seen_subcommand_from check' -l strict \

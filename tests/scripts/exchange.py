@@ -1,0 +1,218 @@
+"""Exchanges the private folder of a run by another user of the same group, who owns the folder that it is in, at many
+moments. Nothing else may change, and the run gives its right answer, or a fault. For parallel; as root."""
+import concurrent.futures
+import os
+import shutil
+import subprocess
+import time
+
+import beside
+from beside import PARALLEL, TOP, image, tree
+
+# The user of the run, another one, and the group of both.
+USER, OTHER, GROUP = 64001, 64002, 64000
+# Tools that the scripts call. At the numbered call of one the folder is exchanged before it runs, or after mktemp.
+TOOLS = "mktemp stat find ln sed xargs awk head sh cat tail mv rm rmdir split cmp sbatch dicomdir".split()
+CALLS = 1, 2, 3, 5, 8
+# What takes the folder's place: a link to a folder of the user, such a folder, one of the other user with links to
+# the user's files, or nothing.
+KINDS = "link", "folder", "snare", "nothing"
+NUMBERS = [f"{at:03}" for at in range(16)]
+TOOL = """#!/bin/sh
+tool=${0##*/}
+exchange() {
+    mkdir "$ROOM/call.$1" 2>/dev/null || { [ "$1" -ge 9 ] || exchange $(($1 + 1)); return; }
+    [ "$tool.$1" = "$MOMENT" ] || return
+    : >"$ROOM/wanted"
+    while [ ! -e "$ROOM/done" ]; do /bin/sleep 0.01; done
+}
+[ "$tool" = mktemp ] || [ "$tool" != "${MOMENT%.*}" ] || exchange 1
+case $tool in
+    mktemp) /usr/bin/mktemp "$@"; status=$?; case $*:$MOMENT in *-d*:mktemp.*) exchange 1 ;; esac; exit $status ;;
+    dicomdir) exec "$REAL" "$@" ;;
+    sbatch) exec "$ROOM/tools/submit" "$@" ;;
+esac
+PATH=${PATH#*:}
+exec "$tool" "$@"
+"""
+# In place of sbatch: runs the jobs at once, from a copy of the script.
+SUBMIT = """#!/usr/bin/env bash
+tasks=0 at=0
+while [ "$1" != -- ]; do
+    case $1 in --array=0-*) tasks=${1#*-*-*-} ;; esac
+    shift
+done
+cp -- "$2" "$ROOM/copy.$$" && chmod +x "$ROOM/copy.$$"
+for ((at = 0; at <= tasks; at++)); do
+    SLURM_SUBMIT_DIR=$PWD SLURM_ARRAY_TASK_ID=$at "$ROOM/copy.$$" "${@:3}" >>"$ROOM/job.log" 2>&1
+done
+echo $$
+"""
+# What a run has in its folder.
+NAMES = ("names paths sizes counts lines skips notes joined named all numbers one other merged.out 1 1.names 1.out 1.status 2 "
+         "set words job listed number list.000000 part.000000 said.000000 errors.000000 status sets plan merged").split()
+
+
+SCRIPTS = ["dicomdir-parallel", "-j2"], ["dicomdir-slurm", "-j2", "--wait"]
+
+
+def fill(folder, owner):
+    """A folder with files that have the names of a run's."""
+    os.mkdir(folder, 0o700)
+    for name in NAMES:
+        if name in ("1", "2", "set", "part.000000"):
+            os.mkdir(f"{folder}/{name}")
+            os.chown(f"{folder}/{name}", owner, GROUP)
+        path = f"{folder}/{name}/DICOMDIR" if os.path.isdir(f"{folder}/{name}") else f"{folder}/{name}"
+        with open(path, "w", encoding="utf-8") as file:
+            file.write("precious\n")
+        os.chown(path, owner, GROUP)
+    os.chown(folder, owner, GROUP)
+
+
+def lay_snare(folder, precious):
+    """A folder of the other user, in which each name leads to a file of the user."""
+    os.mkdir(folder)
+    for name in NAMES:
+        os.symlink(f"{precious}/{name}", f"{folder}/{name}")
+    os.chmod(folder, 0o777)
+
+
+def find_program(runs):
+    """The program by a path that the user of the run may take."""
+    try:
+        subprocess.run([runs.program, "--version"], user=USER, group=GROUP, extra_groups=[], capture_output=True,
+                       check=True)
+        return runs.program
+    except (OSError, subprocess.CalledProcessError):
+        path = runs.work / "program"
+        shutil.copy(runs.program, path)
+        path.chmod(0o755)
+        return str(path)
+
+
+def exchange(place, kind, precious):
+    """Puts something else in the place of the private folder, as the other user."""
+    name = next((name for name in os.listdir(place) if name.startswith((".dicomdir-parallel.", "dicomdir-slurm."))), None)
+    if not name:
+        return
+    words = {"link": f"mv -T {name} moved && ln -s {precious} {name}", "folder": f"mv -T {name} moved && mv -T own {name}",
+             "snare": f"mv -T {name} moved && mv -T snare {name}", "nothing": f"mv -T {name} moved"}[kind]
+    subprocess.run(["sh", "-c", words], cwd=place, user=OTHER, group=GROUP, extra_groups=[], check=True)
+
+
+def prepare(runs, name, mode):
+    """A folder for a run, with one that another user owns, in which OUT is to be made."""
+    room = runs.work / f"exchange-{name}"
+    shutil.rmtree(room, ignore_errors=True)
+    (room / "tools").mkdir(parents=True)
+    for tool in TOOLS:
+        (room / "tools" / tool).write_text(TOOL)
+        (room / "tools" / tool).chmod(0o755)
+    for tool, text in (("submit", SUBMIT), ("scontrol", "#!/bin/sh\n"), ("squeue", "#!/bin/sh\n"),
+                       ("sleep", "#!/bin/sh\nexec /bin/sleep 0.01\n")):
+        (room / "tools" / tool).write_text(text)
+        (room / "tools" / tool).chmod(0o755)
+    room.chmod(0o777)
+    for at, name in enumerate(NUMBERS):
+        (room / name).write_bytes(image(f"1.2.3.{at + 1}", f"P{at % 3}") if at != 5 else b"This is no image.\n")
+    (room / "hosts").write_text(":\n")
+    place, precious = room / "place", room / "precious"
+    place.mkdir()
+    fill(precious, USER)
+    fill(place / "own", USER)
+    lay_snare(place / "snare", precious)
+    os.chown(place / "snare", OTHER, GROUP)
+    os.chown(place, OTHER, GROUP)
+    place.chmod(mode)
+    return room, place, precious
+
+
+def try_moment(runs, program, wanted, script, moment, kind):
+    """Exchanges the folder at a moment. Says whether the run came there."""
+    name = f"{script[0]}{'-hosts' * ('hosts' in script)}-{moment}-{kind}"
+    room, place, precious = prepare(runs, name, 0o3770)
+    before = tree(precious), tree(place / "own")
+    environment = {**os.environ, "ROOM": str(room), "MOMENT": moment, "REAL": program, "TMPDIR": str(room),
+                   "HOME": str(room),
+                   "PATH": f"{room}/tools:{os.environ['PATH']}", "DICOMDIR_PROGRAM": str(room / "tools" / "dicomdir")}
+    words = [str(TOP / "scripts" / script[0]), *script[1:], "place/OUT", *NUMBERS]
+    with subprocess.Popen(words, cwd=room, env=environment, user=USER, group=GROUP, extra_groups=[], umask=0o022,
+                          stdin=subprocess.DEVNULL, stdout=subprocess.PIPE, stderr=subprocess.PIPE) as child:
+        came = False
+        end = time.monotonic() + 120
+        while child.poll() is None and time.monotonic() < end:
+            if not came and (room / "wanted").exists():
+                came = True
+                exchange(place, kind, precious)
+                (room / "done").touch()
+            time.sleep(0.005)
+        if child.poll() is None:
+            child.kill()
+            runs.fault(f"{name}: it does not end")
+        output, errors = child.communicate()
+    own = find_own(place)
+    after = tree(precious), tree(own) if own else None
+    for what, one, other in zip(("outside", "in the place"), before, after):
+        if one != other:
+            runs.fault(f"{name}: what is {what} was changed: {beside.short(one, other or {})}")
+    right = (child.returncode, output, errors, files_of(place / "OUT")) == wanted
+    if not right and (child.returncode == 0 or not errors):
+        runs.fault(f"{name}: no right answer, and no fault: {child.returncode, output, errors}")
+    shutil.rmtree(room, ignore_errors=True)
+    return came
+
+
+def find_own(place):
+    """The folder of the user, under whatever name."""
+    for path in place.iterdir():
+        if not path.is_symlink() and path.is_dir() and (path / "joined").is_file() and \
+                not (path / "joined").is_symlink() and (path / "joined").read_bytes() == b"precious\n":
+            return path
+    return None
+
+
+def files_of(folder):
+    """The bytes of all files in a folder."""
+    return {path.relative_to(folder): path.read_bytes() for path in folder.rglob("*") if path.is_file()}
+
+
+def index(runs):
+    """What index says and makes."""
+    room, _, _ = prepare(runs, "index", 0o700)
+    words = [runs.program, "index", "place/OUT", *NUMBERS]
+    return (*runs.run(words, room, dict(os.environ)), files_of(room / "place" / "OUT"))
+
+
+def try_group(runs, program, script):
+    """A folder to which the group of both users may write is refused, and nothing is made there."""
+    room, place, _ = prepare(runs, f"group-{script[0]}", 0o2770)
+    os.chown(place, USER, GROUP)
+    before = tree(place)
+    words = [str(TOP / "scripts" / script[0]), *script[1:], "place/OUT", *NUMBERS]
+    done = subprocess.run(words, cwd=room, user=USER, group=GROUP, extra_groups=[], capture_output=True, check=False,
+                          env={**os.environ, "DICOMDIR_PROGRAM": program}, stdin=subprocess.DEVNULL)
+    if done.returncode != 1 or done.stdout or not done.stderr.startswith(f"error: others may write to {place}, ".encode()):
+        runs.fault(f"{script[0]}, a folder of mode 2770: {done}")
+    if tree(place) != before:
+        runs.fault(f"{script[0]}, a folder of mode 2770: something was made")
+
+
+def try_exchange(runs):
+    """Exchanges the folders of both scripts. Gives how many runs came to the moment."""
+    if os.geteuid() != 0 or subprocess.run([PARALLEL, "--help"], user=USER, group=GROUP, extra_groups=[],
+                                           capture_output=True, check=False).returncode:
+        beside.skip("an exchange of private folders", "no other user can be taken here")
+        return 0
+    runs.work.chmod(0o711)
+    program, wanted = find_program(runs), index(runs)
+    for script in SCRIPTS:
+        try_group(runs, program, script)
+    scripts = [*SCRIPTS, *([*SCRIPTS[0], "--hosts", "hosts"] for _ in range(runs.hosts))]
+    moments = [(script, f"{tool}.{call}") for script in scripts for tool in TOOLS for call in CALLS]
+    tries = [(*moment, KINDS[at % len(KINDS)]) for at, moment in enumerate(moments)]
+    with concurrent.futures.ThreadPoolExecutor(2 * (os.cpu_count() or 1)) as at_once:
+        came = sum(at_once.map(lambda one: try_moment(runs, program, wanted, *one), tries))
+    if came < len(tries) // 5:
+        runs.fault(f"the folder was exchanged in {came} runs alone")
+    return came
