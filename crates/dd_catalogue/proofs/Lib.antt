@@ -4,6 +4,7 @@ pub mod AnyOrder
 pub mod BestMembers
 pub mod BestOfBests
 pub mod Cases
+pub mod Changed
 pub mod FirstConflicts
 pub mod Counted
 pub mod Distinct
@@ -17,6 +18,7 @@ pub mod Images
 pub mod Members
 pub mod Merging
 pub mod Places
+pub mod Ranked
 pub mod References
 pub mod Retold
 pub mod SameVersions

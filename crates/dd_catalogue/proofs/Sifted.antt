@@ -22,7 +22,7 @@ above-map : {V : Type 0} (key : V → List ℕ) (k : List ℕ) (m : List V) → 
 above-map key k [] up = tt
 above-map key k (v ∷ m) up = (up.0, above-map key k m up.1)
 
-rising-map : {V : Type 0} (key : V → List ℕ) (m : List V) → IsRising key bytes_cmp m
+pub rising-map : {V : Type 0} (key : V → List ℕ) (m : List V) → IsRising key bytes_cmp m
     → IsRising (λ u. u) bytes_cmp (map key m)
 rising-map key [] up = tt
 rising-map key (v ∷ m) up = (above-map key (key v) m up.0, rising-map key m up.1)

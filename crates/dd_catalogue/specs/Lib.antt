@@ -2,6 +2,7 @@ pub mod Agreement
 pub mod Best
 pub mod BestLaws
 pub mod Carriers
+pub mod Changes
 pub mod CatalogueJoin
 pub mod Conflicts
 pub mod Compared
@@ -14,6 +15,7 @@ pub mod HarmonyFound
 pub mod Histories
 pub mod Joins
 pub mod Owners
+pub mod Ranks
 pub mod Rising
 pub mod Table
 pub mod Taking

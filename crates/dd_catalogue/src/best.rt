@@ -235,7 +235,7 @@ impl<T: Keyed + TryClone + Drop> Table<T> {
     }
 }
 
-fn copies<T: TryClone + Drop>(alloc: Global, values: &[T]) -> Result<Vec<T>, Memory>
+pub(crate) fn copies<T: TryClone + Drop>(alloc: Global, values: &[T]) -> Result<Vec<T>, Memory>
     ensures equal { IfOk result (λ copies. copies.items ≡ values.now) }
     ensures some { OnErr result (values.now ≢ []) }
 {

@@ -1,6 +1,6 @@
 //! Versions as carriers of the keys of their patients, their studies or their series.
 
-ghost use Rattle.std.specs.Prelude.{◌≡◌, IfOk};
+ghost use Rattle.std.specs.Prelude.{◌≡◌, IfOk, map};
 
 use crate::greatest::Keyed;
 use crate::tuples::Tuple;
@@ -71,9 +71,10 @@ impl<'a, T: Tuple> Keyed for Carrier<'a, T> {
 
 pub(crate) fn carriers_of<'a, T: Tuple>(
     alloc: Global,
-    versions: &'a [Version],
+    versions: &[&'a Version],
 ) -> Result<Vec<Carrier<'a, T>>, Memory>
-    ensures { IfOk result (λ carriers. carriers.items ≡ versions.now) }
+    ensures { IfOk result (λ carriers.
+        carriers.items ≡ map (λ version. version.now) versions.now) }
 {
     let mut carriers = Vec::with_capacity(alloc, versions.len())?;
     for version in versions {

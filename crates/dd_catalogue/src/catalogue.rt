@@ -2,6 +2,7 @@
 
 ghost use Rattle.std.specs.Prelude.{◌≡◌, ◌≢◌, ◌==◌, ◌≤◌, ◌+◌, ◌*◌, ◌⊎◌, [], length, map, min, option_copied};
 ghost use Rattle.std.specs.Prelude.{IsOk, IfOk, IfErr, OnOk, OnErr, IsSome, IsTrue};
+ghost use Rattle.dd_catalogue.specs.Changes.{with_changes};
 ghost use Rattle.dd_catalogue.specs.Conflicts.{IsConflict, first_conflict};
 ghost use Rattle.dd_catalogue.specs.Harmony.{IsHarmonised, harmonised};
 ghost use Rattle.dd_catalogue.specs.HarmonyFound.{IsHarmonyOf};
@@ -15,12 +16,14 @@ ghost use Rattle.dd_elem.specs.Device.{last_count};
 ghost use Rattle.dd_elem.specs.Ordered.{bytes_cmp};
 
 use crate::best::Table;
+use crate::changes::Changes;
 use crate::conflicts::first_conflict;
 use crate::greatest::references_to;
 use crate::harmony::{harmony_of, harmony_or_conflict};
 use crate::join::Join;
 use crate::outcomes::{Harmony, Refused, Took, Withdrew, to_took};
-use crate::sifting::sift_references;
+use crate::sifting::{sift, sift_references};
+use crate::thinning::keep_greatest;
 use crate::withdrawals::{Withdrawals, uid_table};
 use dd_elem::{Memory, Uid};
 use dd_version::Version;
@@ -133,6 +136,24 @@ impl Catalogue {
             return Ok(Catalogue::new(alloc));
         }
         Catalogue::without(alloc, references_to(alloc, versions)?, uid_table(withdrawn))
+    }
+
+    /// Makes a catalogue of the best of the versions whose instances are not withdrawn, and puts each of these changed
+    /// versions at its index among them where its instance stands. Sorts the list in place, and takes no memory.
+    pub fn from_list(versions: Vec<Version>, withdrawn: Withdrawals, changes: Changes) -> Catalogue
+        ensures { result ≡ record {
+          versions = with_changes changes (kept_of versions.items withdrawn);
+          withdrawn = withdrawn;
+        } }
+    {
+        let mut held = versions;
+        keep_greatest(&mut held);
+        sift(&mut held, withdrawn.values());
+        changes.write(&mut held);
+        Catalogue {
+            table: Table::from_rising(held),
+            withdrawn,
+        }
     }
 
     /// Counts the instances that it holds.

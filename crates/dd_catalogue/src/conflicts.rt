@@ -7,7 +7,7 @@ ghost use Rattle.dd_catalogue.specs.Conflicts.{first_conflict, conflicts, pair_o
 ghost use Rattle.dd_catalogue.specs.Owners.{HasThoseOfTwoOwners, patient_id, series_uid, study_uid};
 
 use crate::carriers::{Carrier, carriers_of};
-use crate::greatest::Greatest;
+use crate::greatest::{Greatest, references_to};
 use crate::owners::of_two_owners;
 use dd_elem::{Memory, Uid};
 use dd_version::{PatientKeys, SeriesKeys, StudyKeys, Version};
@@ -24,20 +24,22 @@ pub(crate) fn first_conflict(
     if versions.is_empty() {
         return Ok(None);
     }
-    let studies = carriers_of::<StudyKeys>(alloc, versions)?;
-    let series = carriers_of::<SeriesKeys>(alloc, versions)?;
-    conflict_by(alloc, versions, &studies, &series)
+    let references = references_to(alloc, versions)?;
+    let studies = carriers_of::<StudyKeys>(alloc, &references)?;
+    let series = carriers_of::<SeriesKeys>(alloc, &references)?;
+    conflict_by(alloc, &references, &studies, &series)
 }
 
 fn conflict_by<'b, 'a>(
     alloc: Global,
-    versions: &[Version],
+    versions: &[&Version],
     studies: &'b [Carrier<'a, StudyKeys>],
     series: &'b [Carrier<'a, SeriesKeys>],
 ) -> Result<Option<(Uid, Uid)>, Memory>
-    requires studies { studies.now ≡ versions.now }
-    requires series { series.now ≡ versions.now }
-    ensures { IfOk result (λ pair. pair ≡ first_conflict versions.now) }
+    requires studies { studies.now ≡ map (λ version. version.now) versions.now }
+    requires series { series.now ≡ map (λ version. version.now) versions.now }
+    ensures { IfOk result (λ pair.
+        pair ≡ first_conflict (map (λ version. version.now) versions.now)) }
 {
     let all_studies = Greatest::among(alloc, studies)?;
     let all_series = Greatest::among(alloc, series)?;
@@ -48,13 +50,15 @@ fn conflict_by<'b, 'a>(
 
 /// Compares only versions of these studies and series with the later ones.
 pub(crate) fn conflict_among<'b, 'a>(
-    versions: &[Version],
+    versions: &[&Version],
     studies: &Greatest<'b, Carrier<'a, StudyKeys>>,
     series: &Greatest<'b, Carrier<'a, SeriesKeys>>,
 ) -> Option<(Uid, Uid)>
-    requires studies { HasThoseOfTwoOwners study_uid patient_id versions.now studies.now }
-    requires series { HasThoseOfTwoOwners series_uid study_uid versions.now series.now }
-    ensures { result ≡ first_conflict versions.now }
+    requires studies { HasThoseOfTwoOwners study_uid patient_id
+        (map (λ version. version.now) versions.now) studies.now }
+    requires series { HasThoseOfTwoOwners series_uid study_uid
+        (map (λ version. version.now) versions.now) series.now }
+    ensures { result ≡ first_conflict (map (λ version. version.now) versions.now) }
 {
     let mut later = versions;
     while let [version, rest @ ..] = later {
@@ -81,8 +85,9 @@ fn is_of_two_owners<'b, 'a>(
         || series.get(parts.series.uid.as_bytes()).is_some()
 }
 
-fn pair_with(version: &Version, others: &[Version]) -> Option<(Uid, Uid)>
-    ensures { result ≡ pair_or version.now (find (conflicts version.now) others.now) None }
+fn pair_with(version: &Version, others: &[&Version]) -> Option<(Uid, Uid)>
+    ensures { result ≡ pair_or version.now
+        (find (conflicts version.now) (map (λ other. other.now) others.now)) None }
 {
     for other in others {
         if conflicts(version, other) {

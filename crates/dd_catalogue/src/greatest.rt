@@ -1,6 +1,6 @@
 //! Tables of references: of each key the greatest value.
 
-ghost use Rattle.std.specs.Prelude.{◌≡◌, ◌<◌, ◌≤◌, ◌∷◌, List, ℕ, length, option_copied, unwrap_or, map, IfOk, OnOk};
+ghost use Rattle.std.specs.Prelude.{◌≡◌, ◌<◌, ◌≤◌, [], ◌∷◌, List, ℕ, length, option_copied, unwrap_or, map, IfOk, OnOk};
 ghost use Rattle.std.specs.List.{HoldsAt, AllWithin};
 ghost use Rattle.std.specs.declared.cmp.Ordering.TheVariants.{Less, Equal, Greater};
 ghost use Rattle.dd_elem.specs.Ordered.{bytes_cmp};
@@ -38,14 +38,20 @@ impl<'a, T: Keyed> Model for Greatest<'a, T> {
 }
 
 impl<'a, T: Keyed> Greatest<'a, T> {
+    pub(crate) fn none(alloc: Global) -> Greatest<'a, T>
+        ensures { result ≡ [] }
+    {
+        Greatest {
+            held: Vec::new(alloc),
+        }
+    }
+
     pub(crate) fn of(alloc: Global, mut values: Vec<&'a T>) -> Result<Greatest<'a, T>, Memory>
         ensures { IfOk result (λ greatest. greatest
             ≡ best T.key_of bytes_cmp T.order (map (λ value. value.now) values.entry.items)) }
     {
         values.sort_by(|one: &&T, other: &&T| one.key().cmp(other.key()))?;
-        let mut greatest = Greatest {
-            held: Vec::new(alloc),
-        };
+        let mut greatest = Greatest::none(alloc);
         for value in &values {
             greatest.offer(*value)?;
         }

@@ -5,6 +5,7 @@ ghost use Rattle.dd_catalogue.specs.Taking.{as_took};
 
 use crate::best::Taken;
 use crate::catalogue::Catalogue;
+use crate::changes::Changes;
 use dd_elem::Uid;
 use dd_version::Version;
 use thiserror::Error;
@@ -36,6 +37,15 @@ pub enum Withdrew {
 pub enum Harmony {
     /// The catalogue in harmony: no two of its versions conflict.
     Found(Catalogue),
+    /// The first two instances whose versions conflict.
+    Conflict(Uid, Uid),
+}
+
+/// What was found of the harmony of versions.
+#[derive(Debug, Drop)]
+pub enum HarmonyChanges {
+    /// The versions that have other keys in harmony: no two versions conflict.
+    Found(Changes),
     /// The first two instances whose versions conflict.
     Conflict(Uid, Uid),
 }

@@ -19,10 +19,10 @@ enum Holding {
     Shared(Arc<Table<Uid>>),
 }
 
-/// Withdrawn UIDs, each once, rising. Copies of a list made by `for_sharing` share its memory, until a UID is added
-/// to one of them.
+/// Holds withdrawn SOP Instance UIDs (PS3.3 section C.12.1), each once, rising. Copies of a list made by `for_sharing`
+/// share its memory, until a UID is added to one of them.
 #[derive(Debug, Drop)]
-pub(crate) struct Withdrawals {
+pub struct Withdrawals {
     held: Holding,
 }
 
@@ -38,10 +38,18 @@ impl Model for Withdrawals {
 }
 
 impl Withdrawals {
-    pub(crate) fn new(alloc: Global) -> Withdrawals
+    /// Makes the list without a UID.
+    pub fn new(alloc: Global) -> Withdrawals
         ensures { result ≡ [] }
     {
         Withdrawals::from_table(Table::new(alloc))
+    }
+
+    /// Makes the list of these UIDs. Sorts them in place, which takes no memory.
+    pub fn from_list(uids: Vec<Uid>) -> Withdrawals
+        ensures { result ≡ uids_of uids.items }
+    {
+        Withdrawals::from_table(uid_table(uids))
     }
 
     pub(crate) fn from_table(uids: Table<Uid>) -> Withdrawals

@@ -1,7 +1,8 @@
 //! Conflicts between the versions of a catalogue, and the keys on which they agree in harmony.
 
-use dd_catalogue::{Catalogue, Harmony};
-use dd_vectors::{ask_all, taken, text_of};
+use dd_catalogue::{Catalogue, Harmony, HarmonyChanges, Kept, Withdrawals};
+use dd_elem::Uid;
+use dd_vectors::{ask_all, images, taken, text_of};
 use dd_version::Parts;
 use std::alloc::Global;
 use std::test::Fail;
@@ -66,6 +67,47 @@ fn harmony(alloc: Global, question: &str) -> Result<String, Fail> {
 #[test]
 fn harmonised_versions_agree(rt: HostRuntime) -> Result<(), Fail> {
     ask_all(rt.alloc(), HARMONIES, harmony)
+}
+
+/// Makes the catalogue of the list itself, or finds what conflicts in it.
+fn of_list(alloc: Global, question: &str, withdrawn: Withdrawals) -> Result<Harmony, Fail> {
+    let versions = images(alloc, question)?;
+    let found = Kept::of(alloc, &versions, &withdrawn)?.changes_or_conflict(alloc)?;
+    Ok(match found {
+        HarmonyChanges::Found(changes) => {
+            Harmony::Found(Catalogue::from_list(versions, withdrawn, changes))
+        }
+        HarmonyChanges::Conflict(one, other) => Harmony::Conflict(one, other),
+    })
+}
+
+fn list_harmony(alloc: Global, question: &str) -> Result<String, Fail> {
+    match of_list(alloc, question, Withdrawals::new(alloc))? {
+        Harmony::Found(catalogue) => studies(alloc, &catalogue),
+        Harmony::Conflict(..) => Err("two versions conflict".into()),
+    }
+}
+
+fn list_conflict(alloc: Global, question: &str) -> Result<String, Fail> {
+    match of_list(alloc, question, Withdrawals::new(alloc))? {
+        Harmony::Found(_) => Ok(String::from_str(alloc, "none")?),
+        Harmony::Conflict(one, other) => Ok(format!(in alloc; "{one} {other}")?),
+    }
+}
+
+#[test]
+fn a_list_becomes_its_catalogue_in_harmony(rt: HostRuntime) -> Result<(), Fail> {
+    ask_all(rt.alloc(), HARMONIES, list_harmony)?;
+    ask_all(rt.alloc(), CONFLICTS, list_conflict)?;
+    let mut uids = Vec::new(rt.alloc());
+    uids.push(Uid::new(b"1.2.3.4.5")?)?;
+    let list = of_list(rt.alloc(), "2A1CA2", Withdrawals::from_list(uids))?;
+    let Harmony::Found(left) = list else {
+        return Err("two versions conflict".into());
+    };
+    assert_eq!(rt; studies(rt.alloc(), &left)?.as_str(), "1.2.3.4.6 101500 'B");
+    assert_eq!(rt; left.withdrawn().len(), 1);
+    Ok(())
 }
 
 /// The studies of all instances in harmony, or the two that conflict.

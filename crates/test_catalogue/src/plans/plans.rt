@@ -1,8 +1,8 @@
 //! Plans of catalogues.
 
 use dd_elem::{FileId, SetId, Uid};
-use dd_layout::{Label, Limits, Plan, PlanFault, lay_out};
-use dd_vectors::taken;
+use dd_layout::{Label, Limits, Plan, PlanFault, lay_out, lay_out_harmony};
+use dd_vectors::{catalogue_of, taken};
 use std::alloc::Global;
 use std::test::Fail;
 
@@ -37,5 +37,19 @@ fn a_plan_keeps_its_label(rt: HostRuntime) -> Result<(), Fail> {
     let limits = Limits::new(u32::MAX, FileId::MAX_RANK).ok_or("no limits")?;
     let plan = planned(rt.alloc(), "1", "DISC1", limits)??;
     assert!(rt; *plan.label() == label_of("DISC1")?);
+    Ok(())
+}
+
+#[test]
+fn harmony_is_laid_out_as_its_catalogue(rt: HostRuntime) -> Result<(), Fail> {
+    let limits = Limits::new(u32::MAX, FileId::MAX_RANK).ok_or("no limits")?;
+    let label = label_of("DISC1")?;
+    for words in ["", "1234", "AC", "ZL/1.2.9"] {
+        let catalogue = catalogue_of(rt.alloc(), words)?;
+        let plan = lay_out(rt.alloc(), &catalogue, &label, limits)?;
+        let again = lay_out_harmony(rt.alloc(), catalogue.harmonise()?, &label, limits)?;
+        assert!(rt; again.records() == plan.records());
+        assert_eq!(rt; again.size(), plan.size());
+    }
     Ok(())
 }

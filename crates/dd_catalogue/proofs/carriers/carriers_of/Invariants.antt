@@ -1,5 +1,5 @@
-use Rattle.std.proofs.Common.{◌≡◌, take}
+use Rattle.std.proofs.Common.{◌≡◌, map, take}
 use Rattle.dd_catalogue.proofs.carriers.carriers_of.Given as goal
 
 abbrev pub invariant-loop-version : goal.invariant-loop-version
-invariant-loop-version g l = l.carriers.items ≡ take l.version-index l.versions
+invariant-loop-version g l = l.carriers.items ≡ map (λ version. version.now) (take l.version-index l.versions)
