@@ -5,15 +5,15 @@ ghost use Rattle.dd_catalogue.specs.Contents.{nothing};
 ghost use Rattle.dd_elem.specs.Digests.{uid_of_digest};
 ghost use Rattle.dd_layout.specs.Layouts.{layout_of};
 ghost use Rattle.dd_layout.specs.Refusal.{refusal};
-ghost use Rattle.dd_dir.specs.Deriving.{derived_label, derived_refusal};
+ghost use Rattle.dd_dir.specs.Deriving.{derived_label, derived_refusal, harmony_excess, harmony_label};
 ghost use Rattle.dd_dir.specs.Directories.{derived, directory_of, unnamed_label};
 ghost use Rattle.sha2.specs.Sha256.{sha256};
 
 use crate::digester::Digester;
 use crate::directory_writing::write_directory;
-use dd_catalogue::Catalogue;
+use dd_catalogue::{Catalogue, Harmony};
 use dd_elem::{SetId, Uid};
-use dd_layout::{Label, Limits, Plan, PlanFault, lay_out};
+use dd_layout::{Label, Limits, Plan, PlanFault, lay_out, lay_out_harmony};
 use std::alloc::Global;
 
 /// The UID in the directory that is hashed.
@@ -58,7 +58,31 @@ pub fn lay_out_derived(
         ⊎ (derived_refusal id.now limits catalogue.now.versions catalogue.now.withdrawn
         ≡ Some fault)) }
 {
-    let plan = lay_out(alloc, catalogue, &unnamed_label(id), limits)?;
+    match catalogue.harmonise_or_conflict()? {
+        Harmony::Found(harmony) => lay_out_derived_harmony(alloc, harmony, id, limits),
+        Harmony::Conflict(one, other) => Err(PlanFault::Conflict(one, other)),
+    }
+}
+
+/// Lays out the directory of a catalogue whose versions are in harmony, as `lay_out_harmony` does, under this ID and
+/// the UID that `derived_uid` gives. Refused as `lay_out_derived` refuses, but never with Conflict.
+pub fn lay_out_derived_harmony(
+    alloc: Global,
+    harmony: Catalogue,
+    id: &SetId,
+    limits: Limits,
+) -> Result<Plan, PlanFault>
+    ensures planned { IfOk result (λ plan. plan ≡ record {
+      label = harmony_label id.now harmony.versions harmony.withdrawn;
+      versions = harmony.versions;
+      withdrawn = harmony.withdrawn;
+    }) }
+    ensures allowed { IsOk result
+        → harmony_excess id.now limits harmony.versions harmony.withdrawn ≡ None }
+    ensures refused { IfErr result (λ fault. ((fault ≡ PlanFault.Memory) × (harmony ≢ nothing))
+        ⊎ (harmony_excess id.now limits harmony.versions harmony.withdrawn ≡ Some fault)) }
+{
+    let plan = lay_out_harmony(alloc, harmony, &unnamed_label(id), limits)?;
     let uid = uid_of(&plan);
     plan.under(&Label { id: *id, uid }, limits)
 }

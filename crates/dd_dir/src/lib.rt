@@ -35,7 +35,7 @@ mod well_formed;
 mod withdrawal_writing;
 mod withdrawn;
 
-pub use derived::{derived_uid, lay_out_derived};
+pub use derived::{derived_uid, lay_out_derived, lay_out_derived_harmony};
 pub use directory_walk::read_directory;
 pub use directory_writing::write_directory;
 pub use fault::DirFault;

@@ -45,19 +45,39 @@ pub fn lay_out(
         × (catalogue.now ≢ nothing))
         ⊎ (refusal label.now limits catalogue.now.versions catalogue.now.withdrawn ≡ Some fault)) }
 {
-    let versions = match catalogue.harmonise_or_conflict()? {
-        Harmony::Found(versions) => versions,
-        Harmony::Conflict(one, other) => return Err(PlanFault::Conflict(one, other)),
-    };
-    let mut records = nodes(alloc, versions.versions())?;
+    match catalogue.harmonise_or_conflict()? {
+        Harmony::Found(harmony) => lay_out_harmony(alloc, harmony, label, limits),
+        Harmony::Conflict(one, other) => Err(PlanFault::Conflict(one, other)),
+    }
+}
+
+/// Lays out the directory of a catalogue whose versions are in harmony, as they are, and takes the catalogue into the
+/// plan. Refused as `lay_out` refuses, but never with Conflict.
+pub fn lay_out_harmony(
+    alloc: Global,
+    harmony: Catalogue,
+    label: &Label,
+    limits: Limits,
+) -> Result<Plan, PlanFault>
+    ensures planned { IfOk result (λ plan. plan ≡ record {
+      label = label.now;
+      versions = harmony.versions;
+      withdrawn = harmony.withdrawn;
+    }) }
+    ensures allowed { IsOk result
+        → excess label.now limits harmony.versions harmony.withdrawn ≡ None }
+    ensures refused { IfErr result (λ fault. ((fault ≡ PlanFault.Memory) × (harmony ≢ nothing))
+        ⊎ (excess label.now limits harmony.versions harmony.withdrawn ≡ Some fault)) }
+{
+    let mut records = nodes(alloc, harmony.versions())?;
     let size = fill(
         &mut records,
-        versions.versions(),
-        versions.withdrawn(),
+        harmony.versions(),
+        harmony.withdrawn(),
         label,
         limits,
     )?;
-    Ok(Plan::of(*label, versions, records, size))
+    Ok(Plan::of(*label, harmony, records, size))
 }
 
 /// TooMany comes before TooLarge.

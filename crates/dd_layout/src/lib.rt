@@ -40,7 +40,7 @@ pub use laws::{
     four_images_are_planned, harmony_keeps_the_tree, offsets_are_within, rows_are_known,
     tree_is_one, tree_is_tree, walk_gives_the_tree,
 };
-pub use layout::lay_out;
+pub use layout::{lay_out, lay_out_harmony};
 pub use level::Level;
 pub use limits::Limits;
 pub use plan::Plan;

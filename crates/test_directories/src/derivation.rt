@@ -3,7 +3,7 @@
 use crate::publishing::limits_of;
 use crate::sending::first_catalogue;
 use dd_catalogue::Catalogue;
-use dd_dir::{derived_uid, lay_out_derived};
+use dd_dir::{derived_uid, lay_out_derived, lay_out_derived_harmony};
 use dd_elem::SetId;
 use dd_layout::Limits;
 use dd_vectors::{ask_all, taken};
@@ -81,4 +81,17 @@ fn laid_out(alloc: Global, question: &str) -> Result<String, Fail> {
 #[test]
 fn file_sets_are_laid_out_under_their_derived_uids(rt: HostRuntime) -> Result<(), Fail> {
     ask_all(rt.alloc(), LAID_OUT, laid_out)
+}
+
+#[test]
+fn harmony_is_laid_out_under_the_uid_of_its_catalogue(rt: HostRuntime) -> Result<(), Fail> {
+    for question in ["v  914", "  358", "AC DISC1 4294967295", "ZL  4294967295"] {
+        let (catalogue, id, limits) = asked(rt.alloc(), question)?;
+        let plan = lay_out_derived(rt.alloc(), &catalogue, &id, limits)?;
+        let again = lay_out_derived_harmony(rt.alloc(), catalogue.harmonise()?, &id, limits)?;
+        assert!(rt; again.label() == plan.label());
+        assert!(rt; again.records() == plan.records());
+        assert_eq!(rt; again.size(), plan.size());
+    }
+    Ok(())
 }

@@ -1,43 +1,29 @@
-use Rattle.std.specs.Prelude.{◌≡◌, IfOk}
-use Rattle.std.proofs.Common.{refl, sym, subst, ◌∙◌, inr}
-use Rattle.std.proofs.lemmas.Result.{IfErr-weaker}
+use Rattle.std.proofs.Common.{sym, subst, ◌∙◌}
+use Rattle.std.proofs.lemmas.Result.{IfErr-weaker, IfOk-weaker}
+use Rattle.dd_catalogue.specs.HarmonyFound.{IsHarmonyOf}
+use Rattle.dd_catalogue.specs.declared.outcomes.Harmony.TheVariants.{Found}
 use Rattle.dd_layout.specs.declared.fault.PlanFault.{PlanFault}
 use Rattle.dd_layout.specs.Layouts.{Layout}
-use Rattle.dd_layout.specs.Refusal.{excess}
-use Rattle.dd_dir.specs.Directories.{derived}
-use Rattle.dd_dir.specs.Deriving.{derived_refusal}
-use Rattle.dd_dir.proofs.Deriving.{plan_is_derived, refusal_is_derived, uid_is_derived}
+use Rattle.dd_dir.proofs.Deriving.{fault_of_harmony, plan_of_harmony, refusal_of_harmony}
 use Rattle.dd_dir.proofs.derived.lay_out_derived.Goals as goal
 
-uid_is : (c : goal.After-under) → c.uid_of-uid.result
-    ≡ derived c.args.id.now c.args.catalogue.now.versions c.args.catalogue.now.withdrawn
-uid_is c =
-    c.uid_of-uid.ensures
-    ∙ uid_is_derived c.args.id.now c.args.catalogue.now.versions c.args.catalogue.now.withdrawn
-    c.unnamed_label.result c.in_ok-plan.plan c.in_ok-plan.ensures.planned c.unnamed_label.ensures
+found_is : (c : goal.After-lay_out_derived_harmony) → IsHarmonyOf c.args.catalogue.now (Found c.in-Found.harmony)
+found_is c = subst (λ h. IsHarmonyOf c.args.catalogue.now h) c.in-Found.is c.in_ok-harmony.ensures.harmony
 
--- the refusal of the plan under the derived UID
-refusal_is : (c : goal.After-under)
-    → excess (record { id = c.args.id.now; uid = c.uid_of-uid.result }) c.args.limits c.in_ok-plan.plan.versions
-    c.in_ok-plan.plan.withdrawn
-    ≡ derived_refusal c.args.id.now c.args.limits c.args.catalogue.now.versions c.args.catalogue.now.withdrawn
-refusal_is c =
-    refusal_is_derived c.args.id.now c.args.limits c.args.catalogue.now.versions c.args.catalogue.now.withdrawn
-    c.unnamed_label.result c.in_ok-plan.plan c.uid_of-uid.result c.in_ok-plan.ensures.planned c.unnamed_label.ensures
-    (uid_is c) (c.in_ok-plan.ensures.allowed refl)
+pub returns-in-Found-clause-planned : goal.returns-in-Found-clause-planned
+returns-in-Found-clause-planned c =
+    IfOk-weaker c.lay_out_derived_harmony.result _ _
+    (λ (plan : Layout) h. h ∙ plan_of_harmony c.args.id.now c.args.catalogue.now c.in-Found.harmony (found_is c))
+    c.lay_out_derived_harmony.ensures.planned
 
-pub returns-clause-planned : goal.returns-clause-planned
-returns-clause-planned c =
-    subst (λ (x : Layout). IfOk c.under.result (λ plan. plan ≡ x))
-    (plan_is_derived c.args.id.now c.args.catalogue.now.versions c.args.catalogue.now.withdrawn
-    c.unnamed_label.result c.in_ok-plan.plan c.uid_of-uid.result c.in_ok-plan.ensures.planned
-    (uid_is c))
-    c.under.ensures.planned
+pub returns-in-Found-clause-allowed : goal.returns-in-Found-clause-allowed
+returns-in-Found-clause-allowed c = λ ok.
+    sym (refusal_of_harmony c.args.id.now c.args.limits c.args.catalogue.now c.in-Found.harmony (found_is c))
+    ∙ c.lay_out_derived_harmony.ensures.allowed ok
 
-pub returns-clause-allowed : goal.returns-clause-allowed
-returns-clause-allowed c = λ ok.
-    sym (refusal_is c) ∙ c.under.ensures.allowed ok
-
-pub returns-clause-refused : goal.returns-clause-refused
-returns-clause-refused c =
-    IfErr-weaker c.under.result _ _ (λ (fault : PlanFault) h. inr (sym (refusal_is c) ∙ h)) c.under.ensures.refused
+pub returns-in-Found-clause-refused : goal.returns-in-Found-clause-refused
+returns-in-Found-clause-refused c =
+    IfErr-weaker c.lay_out_derived_harmony.result _ _
+    (λ (fault : PlanFault). fault_of_harmony c.args.id.now c.args.limits c.args.catalogue.now c.in-Found.harmony fault
+    (found_is c))
+    c.lay_out_derived_harmony.ensures.refused
