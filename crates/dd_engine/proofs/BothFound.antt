@@ -62,7 +62,7 @@ pub one_of : {G : Type 0} (d e : Option PlanFault) (fault : PlanFault) → (d �
 one_of None e fault first second is = second is
 one_of (Some d) e fault first second is = first is
 
-named_conflict : (choice : Choice) (limits : Limits) (m : List Parts) (w : List (List ℕ)) (a b : List ℕ)
+pub named_conflict : (choice : Choice) (limits : Limits) (m : List Parts) (w : List (List ℕ)) (a b : List ℕ)
     → refusal_for choice limits m w ≡ Some (Conflict a b) → first_conflict m ≡ Some (a, b)
 named_conflict choice limits m w a b is =
     one_of (derivation choice.uid choice.id limits m w) (refusal (label_for choice m w) limits m w) (Conflict a b)

@@ -17,9 +17,8 @@ use Rattle.dd_engine.specs.declared.marks.Mark.{Mark}
 use Rattle.dd_engine.specs.declared.notes.LeftOut.{LeftOut}
 use Rattle.dd_engine.specs.Noting.{LeftAs, is_other, left_as}
 use Rattle.dd_engine.specs.Picking.{AreHeld, FileKey, file_of, found, found_by, is_one, key_of, mark_cmp, mark_view}
-use Rattle.dd_engine.proofs.FirstMarks.{files_stay, found_stays}
+use Rattle.dd_engine.proofs.FirstMarks.{files_stay, files_viewed, found_stays}
 use Rattle.dd_engine.proofs.ImagePicks.{held_too}
-use Rattle.dd_engine.proofs.SourcePicks.{files_viewed}
 
 -- the places and the UID of a note
 abbrev pub says : {T : Type 0} → LeftOut T → LeftAs T

@@ -137,3 +137,9 @@ pub files_stay : {T : Type 0} (xs ys : List (Mark T)) → IsStable mark_cmp xs y
     ≡ filter (λ file. is_one file t) (map (λ mark. key_of mark) xs)
 files_stay xs ys stable t =
     files_of t ys ∙ ap (λ l. map (λ mark. key_of mark) l) (marks_stay xs ys stable t) ∙ sym (files_of t xs)
+
+-- the files that the views of marks name
+pub files_viewed : {T : Type 0} (marks : List (Mark T))
+    → map (λ mark. key_of mark) marks ≡ map (λ mark. mark.1) (map (λ mark. mark_view mark) marks)
+files_viewed [] = refl
+files_viewed (mark ∷ marks) = ap (λ l. key_of mark ∷ l) (files_viewed marks)

@@ -1,19 +1,17 @@
 -- The files of the images of a plan: what one more image adds, the same files by other marks, and that each version
 -- has a file.
 use denote.Enum.Bare.{sameb}
-use Rattle.std.specs.Prelude.{◌≡◌, ◌≢◌, ◌+◌, ◌<◌, ℕ, true, false, List, [], ◌∷◌, ◌++◌, All, Contains, length, map}
-use Rattle.std.specs.Prelude.{filter, get_or, take, Option, None, Some, slice_get, option_map}
+use Rattle.std.specs.Prelude.{◌≡◌, ◌≢◌, true, List, [], ◌∷◌, All, Contains, map}
+use Rattle.std.specs.Prelude.{filter, get_or, Option, None, Some, slice_get, option_map}
 use Rattle.std.specs.List.{AllByRecursion}
 use Rattle.std.specs.Ordering.{is_eq}
-use Rattle.std.proofs.Common.{refl, sym, ◌∙◌, ap, subst, inl, inr, arith}
+use Rattle.std.proofs.Common.{refl, sym, ◌∙◌, ap, subst, inl, inr}
 use Rattle.std.proofs.lemmas.Cmp.{tied_itself}
-use Rattle.std.proofs.lemmas.List.{append-nil, get_or_default, get_or-map, length-map, map-append}
-use Rattle.std.proofs.lemmas.List.{take_more}
-use Rattle.std.proofs.lemmas.List.Elements.{All-from_recursion, filter-append}
-use Rattle.std.proofs.lemmas.Option.{same_Some, slice_get_read}
+use Rattle.std.proofs.lemmas.List.{get_or_default}
+use Rattle.std.proofs.lemmas.List.Elements.{All-from_recursion}
+use Rattle.std.proofs.lemmas.Option.{same_Some}
 use Rattle.dd_catalogue.proofs.Members.{Member, member_of}
 use Rattle.dd_catalogue.proofs.BestMembers.{best_is_best}
-use Rattle.dd_catalogue.specs.Harmony.{agreed, harmonised}
 use Rattle.dd_catalogue.specs.Rising.{by_test}
 use Rattle.dd_catalogue.specs.Versions.{best_of, versions_ordered}
 use Rattle.dd_version.specs.declared.parts.Parts.{Parts}
@@ -21,7 +19,7 @@ use Rattle.dd_layout.specs.contracts.level.Level.{the_type}
 use Rattle.dd_layout.specs.declared.level.Level.{Level}
 use Rattle.dd_layout.specs.declared.level.Level.TheVariants.{Patient, Study, Series, Image}
 use Rattle.dd_layout.specs.declared.record.PlanRecord.{PlanRecord}
-use Rattle.dd_engine.specs.Picking.{AreHeld, ArePicked, FileKey, file_of, found, found_by, found_of, is_image, is_one}
+use Rattle.dd_engine.specs.Picking.{AreHeld, ArePicked, FileKey, file_of, found, found_by, is_image, is_one}
 use Rattle.dd_engine.proofs.FirstMarks.{file_total, one_file}
 
 -- ---- one record more
@@ -35,52 +33,7 @@ tested row = by row.level where
   by Series = refl
   by Image = refl
 
-picks_more : {T : Type 0} (marks : List (T × FileKey)) (versions : List Parts) (rows : List PlanRecord) (i : ℕ)
-    (row : PlanRecord) → i < length rows → row ≡ get_or rows i row
-    → found_of marks versions (take (i + 1) rows)
-    ≡ found_of marks versions (take i rows) ++ found_of marks versions (row ∷ [])
-picks_more marks versions rows i row below is =
-    ap (found_of marks versions) (take_more rows i row below ∙ ap (λ x. take i rows ++ x ∷ []) (sym is))
-    ∙ ap (map (λ x. found_by marks (slice_get versions x.of))) (filter-append is_image (take i rows) (row ∷ []))
-    ∙ map-append (λ x. found_by marks (slice_get versions x.of)) (filter is_image (take i rows))
-    (filter is_image (row ∷ []))
-
-pub image_more : {T : Type 0} (marks : List (T × FileKey)) (versions : List Parts) (rows : List PlanRecord) (i : ℕ)
-    (row : PlanRecord) (version : Parts) (picks : List T) (at : T) → i < length rows → row ≡ get_or rows i row
-    → is_image row ≡ true → row.of < length versions → version ≡ get_or versions row.of version
-    → Some at ≡ found marks (file_of version)
-    → map (λ pick. Some pick) picks ≡ found_of marks versions (take i rows)
-    → map (λ pick. Some pick) (picks ++ at ∷ []) ≡ found_of marks versions (take (i + 1) rows)
-image_more marks versions rows i row version picks at below is image within read first was =
-    let here : found_of marks versions (row ∷ []) ≡ found marks (file_of version) ∷ [] =
-    rw image (ap (λ o. found_by marks o ∷ []) (slice_get_read versions _ row.of version refl within read)) in
-    map-append (λ pick. Some pick) picks (at ∷ [])
-    ∙ ap (λ l. l ++ Some at ∷ []) was
-    ∙ ap (λ o. found_of marks versions (take i rows) ++ o ∷ []) first
-    ∙ ap (λ l. found_of marks versions (take i rows) ++ l) (sym here)
-    ∙ sym (picks_more marks versions rows i row below is)
-
-pub other_more : {T : Type 0} (marks : List (T × FileKey)) (versions : List Parts) (rows : List PlanRecord) (i : ℕ)
-    (row : PlanRecord) (picks : List T) → i < length rows → row ≡ get_or rows i row → is_image row ≡ false
-    → map (λ pick. Some pick) picks ≡ found_of marks versions (take i rows)
-    → map (λ pick. Some pick) picks ≡ found_of marks versions (take (i + 1) rows)
-other_more marks versions rows i row picks below is other was =
-    let here : found_of marks versions (row ∷ []) ≡ [] = rw other refl in
-    was ∙ sym (append-nil (found_of marks versions (take i rows)))
-    ∙ ap (λ l. found_of marks versions (take i rows) ++ l) (sym here)
-    ∙ sym (picks_more marks versions rows i row below is)
-
 -- ---- what is found, by other marks
-
--- where the same place is found for each file, the same places are found for the records
-pub same_found : {T : Type 0} (marks others : List (T × FileKey)) (versions : List Parts) (rows : List PlanRecord)
-    → ((file : FileKey) → found marks file ≡ found others file)
-    → found_of marks versions rows ≡ found_of others versions rows
-same_found marks others versions rows same = λ j. map (λ row. each (slice_get versions row.of) j) (filter is_image rows)
-  where
-    each : (o : Option Parts) → found_by marks o ≡ found_by others o
-    each None = refl
-    each (Some version) = same (file_of version)
 
 pub twice : {A B C : Type 0} (g : B → C) (f : A → B) (xs : List A) → map g (map f xs) ≡ map (λ x. g (f x)) xs
 twice g f [] = refl
@@ -160,20 +113,7 @@ among (first ∷ versions) version other e (inr there) = by_test (is_one (file_o
     (λ f. rw f (λ none. cc none))
     (λ f. rw f (among versions version other e there))
 
-each_held : (versions left : List Parts) → ((v : Parts) → Member v left → Member v versions)
-    → AreHeld (map (λ v. file_of v) versions) (harmonised (best_of left))
-each_held versions left among_them k d below =
-    let m = best_of left in
-    let within : k < length m = omega (arith, below, length-map m (agreed m)) in
-    let version = get_or m k d in
-    let there : Contains m version = (k, within, get_or_default m k version d within) in
-    let from = ((best_is_best versions_ordered left).each version).0 there in
-    subst (λ other. filter (λ file. is_one file (file_of other)) (map (λ v. file_of v) versions) ≢ [])
-    (sym (get_or-map (agreed m) m k d d within))
-    (among versions version (agreed m version) (own_file version)
-    (among_them version (member_of version left from.member)))
-
--- each version that is kept of them has a file, too
+-- each version that is kept of them has a file
 pub each_kept : (versions left : List Parts) → ((v : Parts) → Member v left → Member v versions)
     → AreHeld (map (λ v. file_of v) versions) (best_of left)
 each_kept versions left among_them k d below =
@@ -182,17 +122,6 @@ each_kept versions left among_them k d below =
     let there : Contains m version = (k, below, get_or_default m k version d below) in
     let from = ((best_is_best versions_ordered left).each version).0 there in
     among versions version version (own_file version) (among_them version (member_of version left from.member))
-
-pub held_of_left : (versions left planned : List Parts) (files : List FileKey)
-    → ((v : Parts) → Member v left → Member v versions) → planned ≡ harmonised (best_of left)
-    → files ≡ map (λ v. file_of v) versions → AreHeld files planned
-held_of_left versions left planned files among_them is all =
-    subst (λ l. AreHeld l planned) (sym all)
-    (subst (λ l. AreHeld (map (λ v. file_of v) versions) l) (sym is) (each_held versions left among_them))
-
-pub held : (versions planned : List Parts) (files : List FileKey) → planned ≡ harmonised (best_of versions)
-    → files ≡ map (λ v. file_of v) versions → AreHeld files planned
-held versions planned files is all = held_of_left versions versions planned files (λ v i. i) is all
 
 -- and so it is among other files, where each file has the same matches
 pub held_too : (files others : List FileKey) (planned : List Parts) → AreHeld others planned

@@ -6,6 +6,8 @@ mod FirstMarks
 mod FirstMentions
 mod FirstSaying
 mod ImagePicks
+mod InHarmony
+mod KeptFiles
 mod KeptImages
 mod KeyOrder
 mod Lending
@@ -18,7 +20,7 @@ mod NotedPlans
 mod OneOfVersions
 mod PicksWithin
 mod PlacePicks
-mod Planning
+mod Planned
 mod PlansRefused
 mod RecordsNoted
 mod SamePlans
@@ -26,7 +28,7 @@ mod SameSets
 mod SetsGathered
 mod SetsNamed
 mod Settling
-mod SourcePicks
 mod SourcesNoted
+mod SourcesNumbered
 mod UnreachedSets
 mod WithdrawnImages

@@ -1,25 +1,19 @@
--- The refusal of a plan, as a merge's. No refusal by versions, label and limits is Memory, so Memory is answered only
--- where a UID or a set is given.
-use Rattle.std.specs.Prelude.{◌≡◌, ◌≢◌, ◌⊎◌, Bool, true, false, ℕ, List, [], ◌∷◌, nat_lt, Option, None, Some, Err}
+-- No refusal by versions, label and limits is Memory.
+use Rattle.std.specs.Prelude.{◌≡◌, Bool, true, false, ℕ, List, nat_lt, Option, None, Some}
 use Rattle.std.specs.Prelude.{if◌then◌else◌}
-use Rattle.std.proofs.Common.{refl, sym, ◌∙◌, subst, inl, inr}
 use Rattle.std.proofs.lemmas.Option.{none-some}
 use Rattle.dd_catalogue.specs.Conflicts.{first_conflict}
-use Rattle.dd_catalogue.specs.Contents.{Contents, nothing}
 use Rattle.dd_catalogue.specs.Harmony.{harmonised}
 use Rattle.dd_dir.specs.Directories.{unnamed_label}
 use Rattle.dd_version.specs.declared.parts.Parts.{Parts}
 use Rattle.dd_layout.specs.Limits.{Limits}
 use Rattle.dd_layout.specs.Plans.{size, tree}
 use Rattle.dd_layout.specs.Refusal.{conflict_or, crowded, crowding_or, refusal}
-use Rattle.dd_layout.specs.declared.fault.PlanFault.{PlanFault}
 use Rattle.dd_layout.specs.declared.fault.PlanFault.TheVariants as plans
 use Rattle.dd_layout.specs.declared.label.Label.{Label}
 use Rattle.dd_layout.specs.declared.level.Level.{Level}
 use Rattle.dd_engine.specs.declared.choice.Choice.{Choice}
 use Rattle.dd_engine.specs.Choosing.{derivation, label_for, refusal_for}
-use Rattle.dd_engine.specs.Merging.{IsGiven, SetListing, held_in}
-use Rattle.dd_engine.specs.MergeSteps.{MergesAs, plan_fault}
 use Rattle.dd_engine.proofs.BothFound.{one_of}
 
 refusal_apart : (label : Label) (limits : Limits) (m : List Parts) (w : List (List ℕ))
@@ -40,37 +34,9 @@ derivation_apart : (uid : Option (List ℕ)) (id : List ℕ) (limits : Limits) (
 derivation_apart None id limits m w is = refusal_apart (unnamed_label id) limits m w is
 derivation_apart (Some uid) id limits m w is = absurd (none-some plans.Memory is)
 
-plan_apart : (choice : Choice) (limits : Limits) (m : List Parts) (w : List (List ℕ))
+pub plan_apart : (choice : Choice) (limits : Limits) (m : List Parts) (w : List (List ℕ))
     → refusal_for choice limits m w ≡ Some plans.Memory → ⊥
 plan_apart choice limits m w is =
     one_of (derivation choice.uid choice.id limits m w) (refusal (label_for choice m w) limits m w) plans.Memory
     (λ e. derivation_apart choice.uid choice.id limits m w e)
     (λ e. refusal_apart (label_for choice m w) limits m w e) is
-
-something : (given : List (List ℕ)) (listings : List SetListing) → held_in given listings ≢ nothing
-    → IsGiven given listings
-something [] [] some = absurd (some refl)
-something (uid ∷ given) listings some = inl (λ is. cc)
-something [] (listing ∷ listings) some = inr (λ is. cc)
-
-as_refused : (choice : Choice) (limits : Limits) (given : List (List ℕ)) (listings : List SetListing) (c : Contents)
-    (fault : PlanFault) → c ≡ held_in given listings
-    → refusal_for choice limits c.versions c.withdrawn ≡ Some fault
-    → MergesAs choice limits given listings (Err (plan_fault fault))
-as_refused choice limits given listings c plans.Memory is refused =
-    absurd (plan_apart choice limits c.versions c.withdrawn refused)
-as_refused choice limits given listings c (plans.Conflict one other) is refused =
-    subst (λ (h : Contents). refusal_for choice limits h.versions h.withdrawn ≡ Some (plans.Conflict one other)) is refused
-as_refused choice limits given listings c (plans.TooMany level) is refused =
-    subst (λ (h : Contents). refusal_for choice limits h.versions h.withdrawn ≡ Some (plans.TooMany level)) is refused
-as_refused choice limits given listings c plans.TooLarge is refused =
-    subst (λ (h : Contents). refusal_for choice limits h.versions h.withdrawn ≡ Some plans.TooLarge) is refused
-
-pub plan_refused : (choice : Choice) (limits : Limits) (given : List (List ℕ)) (listings : List SetListing)
-    (c : Contents) (fault : PlanFault) → c ≡ held_in given listings
-    → ((fault ≡ plans.Memory) × (c ≢ nothing)) ⊎ (refusal_for choice limits c.versions c.withdrawn ≡ Some fault)
-    → MergesAs choice limits given listings (Err (plan_fault fault))
-plan_refused choice limits given listings c fault is (inl lacks) =
-    subst (λ f. MergesAs choice limits given listings (Err (plan_fault f))) (sym lacks.0)
-    (something given listings (λ empty. lacks.1 (is ∙ empty)))
-plan_refused choice limits given listings c fault is (inr refused) = as_refused choice limits given listings c fault is refused

@@ -32,9 +32,9 @@ use Rattle.dd_engine.specs.Noting.{is_other, left_as, left_out}
 use Rattle.dd_engine.specs.Picking.{FileKey, file_of, files_of}
 use Rattle.dd_engine.proofs.BothFound.{best_among, best_rises, both_found}
 use Rattle.dd_engine.proofs.ImagePicks.{told_by, twice}
+use Rattle.dd_engine.proofs.KeptFiles.{left_member}
 use Rattle.dd_engine.proofs.PicksWithin.{all_numbered_below, picks_within}
 use Rattle.dd_engine.proofs.PicksWithin.{AreBelow as ImagesBelow}
-use Rattle.dd_engine.proofs.PlacePicks.{left_member}
 use Rattle.dd_engine.proofs.SourcesNoted.{holds_of_conflict, holds_of_notes}
 
 -- ---- notes where each place is mapped

@@ -4,7 +4,6 @@ use Rattle.std.specs.Prelude.{Ok, Err}
 use Rattle.std.specs.Borrow.{Bor}
 use Rattle.std.proofs.Common.{refl, sym, ◌∙◌, ap, ap₂, inr, subst, arith, append_assoc}
 use Rattle.std.proofs.lemmas.List.{append-nil, map-append, take_more}
-use Rattle.dd_catalogue.specs.Contents.{held_of}
 use Rattle.dd_dir.specs.Own.{Listed, own}
 use Rattle.dd_dir.specs.OwnVersions.{file_of, place_of, version_of}
 use Rattle.dd_dir.specs.Reading.{IsWalk, Refuses}
@@ -16,7 +15,7 @@ use Rattle.dd_engine.specs.declared.merge.Pick.{Pick}
 use Rattle.dd_engine.specs.declared.merge_fault.MergeFault.{MergeFault}
 use Rattle.dd_engine.specs.declared.merge_fault.MergeFault.TheVariants.{Dir, Own, Plan, Memory}
 use Rattle.dd_engine.specs.Merging.{AreOwn, IsFirst, IsForeign, IsOwn, SetListing, numbered, place_pick, places_in}
-use Rattle.dd_engine.specs.Merging.{held_in, pick_view, versions_in, withdrawn_in}
+use Rattle.dd_engine.specs.Merging.{pick_view, versions_in, withdrawn_in}
 use Rattle.dd_engine.specs.MergeSteps.{ArePlaced, FailsAt, Gathers, GathersAll, GathersOf, Withdrawal, withdrawals_from}
 use Rattle.dd_engine.specs.MergeSteps.{withdrawals_in}
 use Rattle.dd_engine.proofs.ImagePicks.{twice}
@@ -166,22 +165,6 @@ placed_is given listings gathered versions picks all files held = record {
   versions = all ∙ held.versions;
   origins = ap (map (λ pick. pick_view pick)) files ∙ held.origins;
 }
-
--- equal lists are placed alike
-pub placed_as : (images : List (ℕ × Listed)) (all versions : List Parts) (files origins : List Pick) → versions ≡ all
-    → origins ≡ files → ArePlaced images all files → ArePlaced images versions origins
-placed_as images all versions files origins same_versions same_files placed = record {
-  versions = same_versions ∙ placed.versions;
-  origins = ap (map (λ pick. pick_view pick)) same_files ∙ placed.origins;
-}
-
-pub held_is : (given : List (List ℕ)) (listings : List SetListing) (gathered : Gathered)
-    → GathersOf given listings gathered
-    → held_of (record { versions = gathered.versions.items; withdrawn = gathered.withdrawn.items })
-    ≡ held_in given listings
-held_is given listings gathered held =
-    ap₂ (λ (v : List Parts) (w : List (List ℕ)). held_of (record { versions = v; withdrawn = w })) held.versions
-    (held.withdrawn ∙ uids_withdrawn given listings)
 
 -- ---- the answer of one set
 

@@ -31,7 +31,7 @@ use Rattle.dd_engine.specs.Noting.{left_as}
 use Rattle.dd_engine.specs.Picking.{FileKey, files_of, found_by}
 use Rattle.dd_engine.proofs.BothFound.{best_among, best_rises, both_found}
 use Rattle.dd_engine.proofs.ImagePicks.{holds_by, holds_of_picks}
-use Rattle.dd_engine.proofs.Planning.{accepted_below, skipped_below}
+use Rattle.dd_engine.proofs.SourcesNumbered.{accepted_below, skipped_below}
 
 -- ---- what holds for every place holds for each place that the notes name
 

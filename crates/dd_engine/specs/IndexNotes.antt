@@ -1,10 +1,6 @@
 -- What an index of sources answers, together with its notes on these sources.
-use Rattle.std.specs.Prelude.{◌≡◌, ◌<◌, ℕ, List, [], length, Option, None, Result, Ok, Err}
-use Rattle.dd_catalogue.specs.Contents.{Contents}
-use Rattle.dd_catalogue.specs.Harmony.{harmonised}
+use Rattle.std.specs.Prelude.{◌≡◌, ◌<◌, ℕ, List, length, Option, None, Result, Ok, Err}
 use Rattle.dd_layout.specs.Limits.{Limits}
-use Rattle.dd_layout.specs.Layouts.{Layout, layout_of}
-use Rattle.dd_layout.specs.Plans.{records_of}
 use Rattle.dd_engine.specs.declared.choice.Choice.{Choice}
 use Rattle.dd_engine.specs.declared.engine.Indexed.{Indexed}
 use Rattle.dd_engine.specs.declared.engine_fault.EngineFault.{EngineFault}
@@ -13,13 +9,10 @@ use Rattle.dd_engine.specs.declared.noted_index.NotedIndex.{NotedIndex}
 use Rattle.dd_engine.specs.declared.notes.ConflictingFiles.{ConflictingFiles}
 use Rattle.dd_engine.specs.declared.notes.LeftOut.{LeftOut}
 use Rattle.dd_engine.specs.declared.notes.NotedFault.{NotedFault}
-use Rattle.dd_engine.specs.declared.notes.Notes.{Notes}
-use Rattle.dd_engine.specs.Choosing.{label_for, refusal_for}
 use Rattle.dd_engine.specs.Indexed.{Indexes, IsIndexed}
 use Rattle.dd_engine.specs.Indexing.{Answer, accepted, best_of_sources, versions_of}
 use Rattle.dd_engine.specs.Noting.{AreLeftOut, IsConflictOf, IsFound}
 use Rattle.dd_engine.specs.PatientNames.{AreNamed, NamedPatient, with_kept_digest}
-use Rattle.dd_engine.specs.Picking.{ArePicked, files_of}
 use Rattle.dd_engine.specs.Supply.{AreAnswers}
 
 -- the answer without its notes
@@ -77,19 +70,3 @@ NotesSupply choice limits limit contents sources (Err noted) =
     NotesFault choice limits limit contents sources noted.fault noted.conflict
 NotesSupply choice limits limit contents sources (Ok noted) = (answers : List Answer)
     × (length answers ≡ sources) × AreAnswers limit contents answers × NotesIndex choice limits answers (Ok noted)
-
--- ---- steps
-
--- the catalogue holds the best of the versions, and nothing is withdrawn
-abbrev pub IsHeldBest : List Answer → Contents → Type 0
-IsHeldBest answers c = (c.versions ≡ best_of_sources (accepted answers)) × (c.withdrawn ≡ [])
-
--- what is planned: the plan, the sources of its images, and the notes
-pub record IsPlanned (choice : Choice) (limits : Limits) (answers : List Answer) (laid : Layout) (from : List ℕ)
-    (noted : Notes ℕ) : Type 0 where
-  pub plan : let m = best_of_sources (accepted answers) in laid ≡ layout_of (label_for choice m []) m []
-  pub allowed : refusal_for choice limits (best_of_sources (accepted answers)) [] ≡ None
-  pub picks : let m = best_of_sources (accepted answers) in ArePicked (files_of (accepted answers)) (harmonised m)
-      (records_of (label_for choice m []) (harmonised m)) from
-  pub left : LeavesOut answers noted.left_out.items
-  pub names : NamesPatients answers noted.names.items

@@ -11,6 +11,7 @@ pub mod Noting
 pub mod Namings
 pub mod PatientNames
 pub mod Picking
+pub mod Planned
 pub mod Published
 pub mod SameSets
 pub mod SameVersions

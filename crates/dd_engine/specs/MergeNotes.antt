@@ -11,7 +11,6 @@ use Rattle.dd_engine.specs.declared.noted_merge.NotedMerge.{NotedMerge}
 use Rattle.dd_engine.specs.declared.notes.ConflictingFiles.{ConflictingFiles}
 use Rattle.dd_engine.specs.declared.notes.LeftOut.{LeftOut}
 use Rattle.dd_engine.specs.declared.notes.NotedFault.{NotedFault}
-use Rattle.dd_engine.specs.declared.notes.Notes.{Notes}
 use Rattle.dd_engine.specs.Merging.{AreOwn, IsFirst, IsForeign, IsGiven, IsMerged, SetListing, filed_in, held_in, numbered}
 use Rattle.dd_engine.specs.Merging.{pick_view, versions_in}
 use Rattle.dd_engine.specs.MergeSteps.{MergesAs}
@@ -46,15 +45,6 @@ FindsBoth fault conflict = Unit {0}
 abbrev pub NamesPatients : List (List ℕ) → List SetListing → List NamedPatient → Type 0
 NamesPatients given listings patients =
     AreNamed (with_kept_digest (held_in given listings).versions (versions_in (numbered 0 listings))) patients
-
--- the answer without the notes on the sets
-abbrev pub PlansMerge : Choice → Limits → List (List ℕ) → List SetListing
-    → Result (Merged × Notes Pick) (NotedFault MergeFault Pick) → Type 0
-PlansMerge choice limits given listings (Ok planned) =
-    IsMerged choice limits given listings planned.0 × LeavesOut given listings planned.1.left_out.items
-    × NamesPatients given listings planned.1.names.items
-PlansMerge choice limits given listings (Err noted) =
-    MergesAs choice limits given listings (Err noted.fault) × ConflictsIn given listings noted.fault noted.conflict
 
 -- the merge answers this, with notes
 abbrev pub NotesMerge : Choice → Limits → List (List ℕ) → List SetListing

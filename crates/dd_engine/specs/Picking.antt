@@ -51,6 +51,10 @@ is_image row = by_level row.level where
 abbrev pub found_of : {T : Type 0} → List (T × FileKey) → List Parts → List PlanRecord → List (Option T)
 found_of files versions rows = map (λ row. found_by files (slice_get versions row.of)) (filter is_image rows)
 
+-- of each image, in the order of the records, what a list has at the place of its version
+abbrev pub taken_of : {T : Type 0} → List T → List PlanRecord → List (Option T)
+taken_of list rows = map (λ row. slice_get list row.of) (filter is_image rows)
+
 -- these are found, one of each image
 abbrev pub ArePicked : {T : Type 0} → List (T × FileKey) → List Parts → List PlanRecord → List T → Type 0
 ArePicked files versions rows picks = map (λ pick. Some pick) picks ≡ found_of files versions rows

@@ -1,5 +1,6 @@
 ghost use Rattle.std.specs.Prelude.{◌≡◌, ◌≢◌, ◌⊎◌, ◌++◌, ◌∷◌, List, [], ℕ, map, None, Some, IfOk, OnErr};
 ghost use Rattle.std.specs.Prelude.{OnOk};
+ghost use Rattle.dd_catalogue.specs.Contents.{uids_of};
 ghost use Rattle.dd_dir.specs.ReadAnswers.{SaysMemory};
 ghost use Rattle.dd_dir.specs.Own.{Listed};
 ghost use Rattle.dd_dir.specs.OwnVersions.{Tells};
@@ -8,8 +9,10 @@ ghost use Rattle.dd_engine.specs.Merging.{pick_view};
 ghost use Rattle.dd_engine.specs.MergeSteps.{AnswersSet, FailsAt, Gathers, GathersAll, Withdrawal};
 ghost use Rattle.dd_engine.specs.MergeSteps.{own_fault};
 
+use crate::basis::Basis;
 use crate::merge::Pick;
 use crate::merge_fault::MergeFault;
+use dd_catalogue::Withdrawals;
 use dd_dir::{DirFault, Own, OwnFault, own_of, read_directory};
 use dd_elem::{Memory, Uid};
 use dd_version::Version;
@@ -60,6 +63,28 @@ impl<'a> Gathered<'a> {
         })
     }
 
+    /// Drops what a plan is not made from.
+    pub(crate) fn into_basis(self) -> Basis<Pick<'a>>
+        ensures { result ≡ record {
+          versions = self.entry.versions;
+          origins = self.entry.origins;
+          withdrawn = uids_of self.entry.withdrawn.items;
+        } }
+    {
+        let Gathered {
+            versions,
+            origins,
+            withdrawn,
+            by: _by,
+            unreached: _unreached,
+        } = self;
+        Basis {
+            versions,
+            origins,
+            withdrawn: Withdrawals::from_list(withdrawn),
+        }
+    }
+
     fn keep(&mut self, at: usize, mut own: Own<'a>, unreached: u64) -> Result<(), Memory>
         ensures versions { OnOk result
             (self.new.versions.items ≡ self.old.versions.items ++ own.entry.versions.items) }
@@ -74,7 +99,7 @@ impl<'a> Gathered<'a> {
             ≡ self.old.unreached.items ++ unreached ∷ []) }
     {
         self.unreached.push(unreached)?;
-        self.versions.append(&mut own.versions)?;
+        append(&mut self.versions, &mut own.versions)?;
         add_numbers(&mut self.by, Some(at), &own.withdrawn)?;
         append(&mut self.withdrawn, &mut own.withdrawn)?;
         add_origins(&mut self.origins, at, &own.files)
@@ -147,18 +172,18 @@ fn own_fault(at: usize, fault: OwnFault) -> MergeFault
     }
 }
 
-/// Appends these UIDs. If they are more than the list has, its own are moved to them, so that the longer list is not in
-/// memory twice.
-fn append(list: &mut Vec<Uid>, uids: &mut Vec<Uid>) -> Result<(), Memory>
-    ensures { OnOk result (list.new.items ≡ list.old.items ++ uids.old.items) }
+/// Appends these values. If they are more than the list has, its own are moved to them, so that the longer list is not
+/// in memory twice.
+fn append<T: Drop>(list: &mut Vec<T>, more: &mut Vec<T>) -> Result<(), Memory>
+    ensures { OnOk result (list.new.items ≡ list.old.items ++ more.old.items) }
 {
-    if uids.len() <= list.len() {
-        list.append(uids)?;
+    if more.len() <= list.len() {
+        list.append(more)?;
         return Ok(());
     }
-    mem::swap(list, uids);
-    let moved = uids.len();
-    list.append(uids)?;
+    mem::swap(list, more);
+    let moved = more.len();
+    list.append(more)?;
     list.rotate_right(moved);
     Ok(())
 }

@@ -8,33 +8,33 @@ ghost use Rattle.dd_engine.specs.Picking.{AreHeld, files_of};
 
 use crate::marks::{first_mark, in_order, marks_of};
 use crate::notes::LeftOut;
-use dd_catalogue::Catalogue;
+use dd_catalogue::Kept;
 use dd_elem::Memory;
 use dd_version::Version;
 use std::alloc::Global;
 
-/// Lists the files of whose instance the catalogue keeps other bytes, in the order in which they came, each with the
-/// first file of the kept version.
+/// Lists the files of whose instance other bytes are kept, in the order in which they came, each with the first
+/// file of the kept version.
 pub(crate) fn left_out_files<T: Copy>(
     alloc: Global,
-    catalogue: &Catalogue,
+    best: &Kept<'_>,
     versions: &[Version],
     origins: &[T],
 ) -> Result<Vec<LeftOut<T>>, Memory>
     requires { AreHeld (map (λ file. file.1) (files_of (zip origins.now versions.now)))
-        catalogue.now.versions }
+        best.now }
     ensures all { IfOk result (λ notes.
-        AreLeftOut (λ at. at) catalogue.now.versions (zip origins.now versions.now)
+        AreLeftOut (λ at. at) best.now (zip origins.now versions.now)
         notes.items) }
     ensures some { OnErr result (versions.now ≢ []) }
 {
-    if are_kept(catalogue, versions) {
+    if are_kept(best, versions) {
         return Ok(Vec::new(alloc));
     }
     let marks = in_order(marks_of(alloc, versions, origins)?)?;
     let mut notes = Vec::new(alloc);
     for (origin, version) in origins.iter().zip(versions) {
-        if let Some(kept) = other_of(catalogue, version) {
+        if let Some(kept) = other_of(best, version) {
             notes.push(LeftOut {
                 file: *origin,
                 kept: first_mark(&marks, kept),
@@ -45,41 +45,41 @@ pub(crate) fn left_out_files<T: Copy>(
     Ok(notes)
 }
 
-fn other_of<'a>(catalogue: &'a Catalogue, version: &Version) -> Option<&'a Version>
+fn other_of<'a>(best: &Kept<'a>, version: &Version) -> Option<&'a Version>
     ensures some { IfSome result (λ one.
-        (kept catalogue.now.versions version.now.instance ≡ Some one.now)
+        (kept best.now version.now.instance ≡ Some one.now)
         × (is_other (Some one.now) version.now ≡ true)) }
     ensures none { result ≡ None
-        → is_other (kept catalogue.now.versions version.now.instance) version.now ≡ false }
+        → is_other (kept best.now version.now.instance) version.now ≡ false }
 {
     let parts = version.parts();
-    let kept = catalogue.get(&parts.instance)?;
+    let kept = best.get(&parts.instance)?;
     if are_same(&kept.parts().digest, &parts.digest) {
         return None;
     }
     Some(kept)
 }
 
-fn are_kept(catalogue: &Catalogue, versions: &[Version]) -> bool
+fn are_kept(best: &Kept<'_>, versions: &[Version]) -> bool
     ensures { result ≡ list_all (λ version. not (is_other
-        (kept catalogue.now.versions version.instance) version))
+        (kept best.now version.instance) version))
         versions.now }
 {
-    versions.iter().all(|version| is_kept(catalogue, version))
+    versions.iter().all(|version| is_kept(best, version))
 }
 
-fn is_kept(catalogue: &Catalogue, version: &Version) -> bool
-    ensures { result ≡ not (is_other (kept catalogue.now.versions version.now.instance)
+fn is_kept(best: &Kept<'_>, version: &Version) -> bool
+    ensures { result ≡ not (is_other (kept best.now version.now.instance)
         version.now) }
 {
-    other_of(catalogue, version).is_none()
+    other_of(best, version).is_none()
 }
 
-pub(crate) fn has_kept_digest(catalogue: &Catalogue, version: &Version) -> bool
-    ensures { result ≡ is_alike (kept catalogue.now.versions version.now.instance) version.now }
+pub(crate) fn has_kept_digest(best: &Kept<'_>, version: &Version) -> bool
+    ensures { result ≡ is_alike (kept best.now version.now.instance) version.now }
 {
     let parts = version.parts();
-    match catalogue.get(&parts.instance) {
+    match best.get(&parts.instance) {
         Some(kept) => are_same(&kept.parts().digest, &parts.digest),
         None => false,
     }

@@ -2,11 +2,13 @@
 //! record that files an image as a plan does.
 #![tactic(auto)]
 
+mod basis;
 mod batch;
 mod choice;
 mod conflict;
 mod engine;
 mod engine_fault;
+mod findings;
 mod gathering;
 mod laws;
 mod left_out;
@@ -18,10 +20,10 @@ mod noted_index;
 mod noted_merge;
 mod notes;
 mod patient_names;
-mod place_picks;
+mod picks;
+mod planning;
 mod saying;
 mod set_notes;
-mod source_picks;
 mod sources;
 mod supply;
 mod withdraw;

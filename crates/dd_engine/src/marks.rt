@@ -1,12 +1,10 @@
 ghost use Rattle.std.specs.Prelude.{◌≡◌, ◌≢◌, [], Some, IfOk, map, filter};
 ghost use Rattle.std.specs.List.{zip};
 ghost use Rattle.std.specs.List.Sorted.{IsSorted, IsStable};
-ghost use Rattle.dd_layout.specs.Plans.{records_of};
-ghost use Rattle.dd_engine.specs.Picking.{AreHeld, ArePicked, file_cmp, file_of, files_of, found, is_one};
+ghost use Rattle.dd_engine.specs.Picking.{file_cmp, file_of, files_of, found, is_one};
 ghost use Rattle.dd_engine.specs.Picking.{key_of, mark_cmp, mark_view};
 
 use dd_elem::{Memory, Ordered, Uid};
-use dd_layout::{Level, Plan};
 use dd_version::Version;
 use std::alloc::Global;
 use std::cmp::Ordering;
@@ -38,22 +36,6 @@ pub(crate) fn marks_of<'a, T: Copy>(
     Ok(marks)
 }
 
-/// Finds for each image of the plan, in the order of the records, the origin of its file: of the first one where
-/// several of these files are the same.
-pub(crate) fn first_marks<T: Copy>(
-    alloc: Global,
-    plan: &Plan,
-    marks: Vec<Mark<'_, T>>,
-) -> Result<Vec<T>, Memory>
-    requires { AreHeld (map (λ mark. key_of mark) marks.items) plan.now.versions }
-    ensures { IfOk result (λ picks.
-        ArePicked (map (λ mark. mark_view mark) marks.entry.items) plan.now.versions
-        (records_of plan.now.label plan.now.versions) picks.items) }
-{
-    let marks = in_order(marks)?;
-    picks_among(alloc, plan, &marks)
-}
-
 pub(crate) fn in_order<T: Copy>(mut marks: Vec<Mark<'_, T>>) -> Result<Vec<Mark<'_, T>>, Memory>
     ensures order { IfOk result (λ ordered. IsSorted mark_cmp ordered.items) }
     ensures stable { IfOk result (λ ordered. IsStable mark_cmp marks.entry.items ordered.items) }
@@ -74,23 +56,6 @@ fn compare<T>(mark: &Mark<'_, T>, instance: &Uid, digest: &[u8; 32]) -> Ordering
     mark.instance
         .compare(instance)
         .then(own[..].cmp(&digest[..]))
-}
-
-fn picks_among<T: Copy>(alloc: Global, plan: &Plan, marks: &[Mark<'_, T>]) -> Result<Vec<T>, Memory>
-    requires order { IsSorted mark_cmp marks.now }
-    requires held { AreHeld (map (λ mark. key_of mark) marks.now) plan.now.versions }
-    ensures { IfOk result (λ picks.
-        ArePicked (map (λ mark. mark_view mark) marks.now) plan.now.versions
-        (records_of plan.now.label plan.now.versions) picks.items) }
-{
-    let versions = plan.versions();
-    let mut picks = Vec::with_capacity(alloc, versions.len())?;
-    for record in plan.records() {
-        if record.level == Level::Image {
-            picks.push(first_mark(marks, &versions[record.of]))?;
-        }
-    }
-    Ok(picks)
 }
 
 pub(crate) fn first_mark<T: Copy>(marks: &[Mark<'_, T>], version: &Version) -> T

@@ -1,24 +1,22 @@
-ghost use Rattle.std.specs.Prelude.{◌≡◌, ◌+◌, List, IfErr, IfOk, IsOk, length};
-ghost use Rattle.dd_engine.specs.Indexed.{IsNamed, IsWithin, as_engine};
+ghost use Rattle.std.specs.Prelude.{◌≡◌, ◌+◌, List, IfErr, IfOk, IsOk};
+ghost use Rattle.dd_engine.specs.Indexed.{IsNamed, IsWithin};
 ghost use Rattle.dd_engine.specs.Indexing.{Answer};
-ghost use Rattle.dd_engine.specs.IndexNotes.{ConflictsIn, FindsBoth, IsHeldBest, IsPlanned};
-ghost use Rattle.dd_engine.specs.IndexNotes.{IsRefused, NotesIndex, NotesSupply};
+ghost use Rattle.dd_engine.specs.IndexNotes.{FindsBoth, NotesIndex, NotesSupply};
 ghost use Rattle.dd_engine.specs.Noting.{AreBelow, IsBelow};
 ghost use Rattle.dd_engine.specs.Supplies.{IndexingEndsBy};
 ghost use Rattle.dd_engine.specs.Supply.{AllStay, EachGrows, Holds};
 
-use crate::choice::{Choice, plan_for};
-use crate::conflict::conflict_of;
+use crate::basis::Basis;
+use crate::choice::Choice;
 use crate::engine::Indexed;
 use crate::engine_fault::EngineFault;
-use crate::left_out::left_out_files;
 use crate::notes::{NotedFault, Notes};
-use crate::patient_names::patient_names;
-use crate::source_picks::source_picks;
+use crate::planning::{Planned, plan_of};
 use crate::sources::{Sources, read_sources};
 use crate::supply::Supply;
-use dd_catalogue::Catalogue;
-use dd_layout::{Limits, Plan, PlanFault};
+use dd_catalogue::Withdrawals;
+use dd_keys::KeyFault;
+use dd_layout::Limits;
 use std::alloc::Global;
 
 /// The result of an index of sources, with notes on these.
@@ -83,59 +81,34 @@ fn noted_plan(
     ensures { (answers : List Answer) → Holds answers sources
         → NotesIndex choice.now limits answers result }
 {
-    let catalogue = Catalogue::from_versions(alloc, &sources.versions)?;
-    let (plan, picks, notes) = plan_and_picks(alloc, &sources, &catalogue, choice, limits)?;
-    let (_versions, _origins, skipped) = sources.into_parts();
-    Ok(NotedIndex {
+    let (versions, origins, skipped) = sources.into_parts();
+    let basis = Basis {
+        versions,
+        origins,
+        withdrawn: Withdrawals::new(alloc),
+    };
+    match plan_of(alloc, basis, choice, limits) {
+        Ok(planned) => Ok(noted_index(planned, skipped)),
+        Err(noted) => Err(NotedFault {
+            fault: EngineFault::from(noted.fault),
+            conflict: noted.conflict,
+        }),
+    }
+}
+
+fn noted_index(planned: Planned<usize>, skipped: Vec<(usize, KeyFault)>) -> NotedIndex
+    ensures { result ≡ record {
+      indexed = record { plan = planned.plan; skipped = skipped; picks = planned.picks };
+      notes = planned.notes;
+    } }
+{
+    let Planned { plan, picks, notes } = planned;
+    NotedIndex {
         indexed: Indexed {
             plan,
             skipped,
             picks,
         },
         notes,
-    })
-}
-
-fn plan_and_picks(
-    alloc: Global,
-    sources: &Sources,
-    catalogue: &Catalogue,
-    choice: &Choice,
-    limits: Limits,
-) -> Result<(Plan, Vec<usize>, Notes<usize>), NotedFault<EngineFault, usize>>
-    requires { (answers : List Answer) × Holds answers sources.now
-        × IsHeldBest answers catalogue.now }
-    ensures planned { (answers : List Answer) → Holds answers sources.now
-        → IsHeldBest answers catalogue.now
-        → IfOk result (λ planned.
-        IsPlanned choice.now limits answers planned.0 planned.1.items planned.2) }
-    ensures refused { (answers : List Answer) → Holds answers sources.now
-        → IsHeldBest answers catalogue.now
-        → IfErr result (λ noted. IsRefused choice.now limits answers noted) }
-{
-    let plan = match plan_for(alloc, catalogue, choice, limits) {
-        Ok(plan) => plan,
-        Err(fault) => return Err(refusal_of(sources, catalogue, fault)),
-    };
-    let picks = source_picks(alloc, &plan, &sources.versions, &sources.origins)?;
-    let left_out = left_out_files(alloc, catalogue, &sources.versions, &sources.origins)?;
-    let names = patient_names(alloc, catalogue, &sources.versions)?;
-    Ok((plan, picks, Notes { left_out, names }))
-}
-
-fn refusal_of(
-    sources: &Sources,
-    catalogue: &Catalogue,
-    fault: PlanFault,
-) -> NotedFault<EngineFault, usize>
-    ensures fault { result.fault ≡ as_engine fault }
-    ensures conflict { (answers : List Answer) → Holds answers sources.now
-        → IsHeldBest answers catalogue.now
-        → ConflictsIn answers result.fault result.conflict }
-{
-    let conflict = conflict_of(catalogue, &sources.versions, &sources.origins, &fault);
-    NotedFault {
-        fault: EngineFault::from(fault),
-        conflict,
     }
 }

@@ -1,25 +1,20 @@
-ghost use Rattle.std.specs.Prelude.{◌≡◌, ◌<◌, ◌∷◌, All, IfErr, IfOk, List, [], ℕ, length, map};
-ghost use Rattle.dd_engine.specs.Merging.{IsNamedSet, SetListing, held_in, numbered};
-ghost use Rattle.dd_engine.specs.MergeNotes.{ConflictsIn, FindsBoth, NotesMerge, NotesSets, PlansMerge};
-ghost use Rattle.dd_engine.specs.MergeSteps.{ArePlaced, GathersOf, plan_fault};
+ghost use Rattle.std.specs.Prelude.{◌≡◌, ◌<◌, ◌∷◌, All, IfErr, IfOk, List, [], length, map};
+ghost use Rattle.dd_engine.specs.Merging.{IsNamedSet, SetListing};
+ghost use Rattle.dd_engine.specs.MergeNotes.{FindsBoth, NotesMerge, NotesSets};
+ghost use Rattle.dd_engine.specs.MergeSteps.{GathersOf};
 ghost use Rattle.dd_engine.specs.Noting.{AreBelow, IsBelow};
 ghost use Rattle.dd_engine.specs.SetNotes.{NameSetsBelow};
 
-use crate::choice::{Choice, plan_for};
-use crate::conflict::conflict_of;
+use crate::choice::Choice;
 use crate::gathering::{Gathered, gather_sets};
-use crate::left_out::left_out_files;
 use crate::merge::{Merged, Pick};
 use crate::merge_fault::MergeFault;
 use crate::notes::{NotedFault, Notes};
-use crate::patient_names::patient_names;
-use crate::place_picks::place_picks;
+use crate::planning::{Planned, plan_of};
 use crate::set_notes::{SetNotes, set_notes};
-use dd_catalogue::Catalogue;
 use dd_elem::Uid;
-use dd_layout::{Limits, PlanFault};
+use dd_layout::Limits;
 use std::alloc::Global;
-use std::mem;
 
 /// The result of a merge of directories, with notes.
 #[derive(Debug, Drop)]
@@ -110,10 +105,10 @@ pub(crate) fn noted_sets<'a>(
     noted_plan(alloc, gathered, given, choice, limits)
 }
 
-/// Plans the directory of what was gathered. The catalogue and the plan share one list of withdrawn UIDs.
+/// Plans the directory of what was gathered.
 fn noted_plan<'a>(
     alloc: Global,
-    mut gathered: Gathered<'a>,
+    gathered: Gathered<'a>,
     given: &[Uid],
     choice: &Choice,
     limits: Limits,
@@ -123,57 +118,26 @@ fn noted_plan<'a>(
         → NotesMerge choice.now limits given.now listings result }
 {
     let sets = set_notes(alloc, &gathered, given)?;
-    let withdrawn = mem::replace(&mut gathered.withdrawn, Vec::new(alloc));
-    let catalogue = Catalogue::from_parts(alloc, &gathered.versions, withdrawn)?;
-    match plan_and_picks(alloc, &gathered, &catalogue, choice, limits) {
-        Ok((merged, notes)) => Ok(NotedMerge {
-            merged,
-            notes,
-            sets,
+    match plan_of(alloc, gathered.into_basis(), choice, limits) {
+        Ok(planned) => Ok(noted_merge(planned, sets)),
+        Err(noted) => Err(NotedFault {
+            fault: MergeFault::from(noted.fault),
+            conflict: noted.conflict,
         }),
-        Err(fault) => Err(fault),
     }
 }
 
-fn plan_and_picks<'a>(
-    alloc: Global,
-    gathered: &Gathered<'a>,
-    catalogue: &Catalogue,
-    choice: &Choice,
-    limits: Limits,
-) -> Result<(Merged<'a>, Notes<Pick<'a>>), NotedFault<MergeFault, Pick<'a>>>
-    requires { (given : List (List ℕ)) × (listings : List SetListing)
-        × ArePlaced (numbered 0 listings) gathered.now.versions.items gathered.now.origins.items
-        × (catalogue.now ≡ held_in given listings) }
-    ensures { (given : List (List ℕ)) (listings : List SetListing)
-        → ArePlaced (numbered 0 listings) gathered.now.versions.items gathered.now.origins.items
-        → catalogue.now ≡ held_in given listings
-        → PlansMerge choice.now limits given listings result }
+fn noted_merge<'a>(planned: Planned<Pick<'a>>, sets: SetNotes<'a>) -> NotedMerge<'a>
+    ensures { result ≡ record {
+      merged = record { plan = planned.entry.plan; picks = planned.entry.picks };
+      notes = planned.entry.notes;
+      sets = sets.entry;
+    } }
 {
-    let plan = match plan_for(alloc, catalogue, choice, limits) {
-        Ok(plan) => plan,
-        Err(fault) => return Err(refusal_of(gathered, catalogue, fault)),
-    };
-    let picks = place_picks(alloc, &plan, &gathered.versions, &gathered.origins)?;
-    let left_out = left_out_files(alloc, catalogue, &gathered.versions, &gathered.origins)?;
-    let names = patient_names(alloc, catalogue, &gathered.versions)?;
-    Ok((Merged { plan, picks }, Notes { left_out, names }))
-}
-
-fn refusal_of<'a>(
-    gathered: &Gathered<'a>,
-    catalogue: &Catalogue,
-    fault: PlanFault,
-) -> NotedFault<MergeFault, Pick<'a>>
-    ensures fault { result.fault ≡ plan_fault fault }
-    ensures conflict { (given : List (List ℕ)) (listings : List SetListing)
-        → ArePlaced (numbered 0 listings) gathered.now.versions.items gathered.now.origins.items
-        → catalogue.now ≡ held_in given listings
-        → ConflictsIn given listings result.fault result.conflict }
-{
-    let conflict = conflict_of(catalogue, &gathered.versions, &gathered.origins, &fault);
-    NotedFault {
-        fault: MergeFault::from(fault),
-        conflict,
+    let Planned { plan, picks, notes } = planned;
+    NotedMerge {
+        merged: Merged { plan, picks },
+        notes,
+        sets,
     }
 }

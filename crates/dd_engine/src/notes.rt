@@ -4,6 +4,7 @@ use crate::engine_fault::EngineFault;
 use crate::merge_fault::MergeFault;
 use crate::patient_names::PatientNames;
 use dd_elem::{self, Uid};
+use dd_layout::PlanFault;
 
 /// A file that is left out, since other bytes are kept of its instance.
 #[derive(Clone, Copy, Debug)]
@@ -87,6 +88,30 @@ impl<T> From<dd_elem::Memory> for NotedFault<MergeFault, T> {
     fn from(_refused: dd_elem::Memory) -> NotedFault<MergeFault, T> {
         NotedFault {
             fault: MergeFault::Memory,
+            conflict: None,
+        }
+    }
+}
+
+impl<T> From<PlanFault> for NotedFault<PlanFault, T> {
+    ghost from_gives = { λ fault noted. noted ≡ record { fault = fault; conflict = None } };
+
+    fn from(fault: PlanFault) -> NotedFault<PlanFault, T> {
+        NotedFault {
+            fault,
+            conflict: None,
+        }
+    }
+}
+
+impl<T> From<dd_elem::Memory> for NotedFault<PlanFault, T> {
+    ghost use Rattle.dd_layout.specs.declared.fault.PlanFault.TheVariants as faults;
+
+    ghost from_gives = { λ _ noted. noted ≡ record { fault = faults.Memory; conflict = None } };
+
+    fn from(_refused: dd_elem::Memory) -> NotedFault<PlanFault, T> {
+        NotedFault {
+            fault: PlanFault::Memory,
             conflict: None,
         }
     }

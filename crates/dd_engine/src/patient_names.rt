@@ -6,7 +6,7 @@ ghost use Rattle.dd_engine.specs.Namings.{grouped, has_id, has_several, naming_c
 ghost use Rattle.dd_engine.specs.PatientNames.{AreNamed, with_kept_digest};
 
 use crate::left_out::has_kept_digest;
-use dd_catalogue::Catalogue;
+use dd_catalogue::Kept;
 use dd_elem::{Key, Memory, Ordered};
 use dd_version::Version;
 use std::alloc::Global;
@@ -100,35 +100,35 @@ impl<'a> Ordered for Naming<'a> {
     }
 }
 
-/// Finds the Patient IDs with more than one Patient's Name among the versions that have the digest that the catalogue
-/// keeps of their instance. The IDs rise by bytes, and the names of each fall by bytes.
+/// Finds the Patient IDs with more than one Patient's Name among the versions that have the digest that is kept of
+/// their instance. The IDs rise by bytes, and the names of each fall by bytes.
 pub(crate) fn patient_names(
     alloc: Global,
-    catalogue: &Catalogue,
+    best: &Kept<'_>,
     versions: &[Version],
 ) -> Result<Vec<PatientNames>, Memory>
     ensures named { IfOk result (λ patients.
-        AreNamed (with_kept_digest catalogue.now.versions versions.now) patients.items) }
+        AreNamed (with_kept_digest best.now versions.now) patients.items) }
     ensures some { OnErr result (versions.now ≢ []) }
 {
     if versions.is_empty() {
         return Ok(Vec::new(alloc));
     }
-    let namings = in_order(namings_of(alloc, catalogue, versions)?);
+    let namings = in_order(namings_of(alloc, best, versions)?);
     of_several_names(alloc, &namings)
 }
 
 fn namings_of<'a>(
     alloc: Global,
-    catalogue: &Catalogue,
+    best: &Kept<'_>,
     versions: &'a [Version],
 ) -> Result<Vec<Naming<'a>>, Memory>
     ensures { IfOk result (λ namings. namings.items
-        ≡ map naming_of (with_kept_digest catalogue.now.versions versions.now)) }
+        ≡ map naming_of (with_kept_digest best.now versions.now)) }
 {
     let mut namings = Vec::with_capacity(alloc, versions.len())?;
     for version in versions {
-        if has_kept_digest(catalogue, version) {
+        if has_kept_digest(best, version) {
             let patient = &version.parts().patient;
             namings.push(Naming {
                 id: &patient.id,

@@ -9,6 +9,6 @@ use Rattle.dd_engine.proofs.left_out.are_kept.Goals as goal
 
 pub returns : goal.returns
 returns c =
-    all_from_yields_List (λ version. not (is_other (kept c.args.catalogue.now.versions version.instance) version))
+    all_from_yields_List (λ version. not (is_other (kept c.args.best.now version.instance) version))
     c.all.new.self _ _ c.all.ensures.ran (YieldsList-from_slice c.args.versions.now cc)
     (λ x b q k. search (rules, tests))

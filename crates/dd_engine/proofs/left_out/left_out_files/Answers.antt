@@ -11,7 +11,7 @@ use Rattle.dd_engine.proofs.left_out.left_out_files.Goals as goal
 pub returns-then-are_kept-clause-all : goal.returns-then-are_kept-clause-all
 returns-then-are_kept-clause-all g c =
     ap (map (λ note. says note)) c.new.ensures.items
-    ∙ none_left (files_of (zip c.args.origins.now c.args.versions.now)) c.args.catalogue.now.versions c.args.origins.now
+    ∙ none_left (files_of (zip c.args.origins.now c.args.versions.now)) c.args.best.now c.args.origins.now
     c.args.versions.now (sym c.are_kept.ensures ∙ c.if-are_kept.true)
 
 pub first_mark-requires-clause-order : goal.first_mark-requires-clause-order
@@ -20,13 +20,13 @@ first_mark-requires-clause-order g c = rw c.deref.ensures.value c.in_ok-marks.en
 pub first_mark-requires-clause-held : goal.first_mark-requires-clause-held
 first_mark-requires-clause-held g c = rw c.deref.ensures.value
     (marks_held (files_of (zip c.args.origins.now c.args.versions.now)) c.in_ok-marks_of.field-0.items
-    c.in_ok-marks.marks.items c.args.catalogue.now.versions c.in-Some.version.now.instance c.in-Some-other_of.kept.now
+    c.in_ok-marks.marks.items c.args.best.now c.in-Some.version.now.instance c.in-Some-other_of.kept.now
     c.requires c.in_ok-marks_of.ensures c.in_ok-marks.ensures.stable c.in-Some-other_of.ensures.some.0)
 
 pub loop-origin-preserved-in_ok-push : goal.loop-origin-preserved-in_ok-push
 loop-origin-preserved-in_ok-push g c =
     let files = files_of (zip c.args.origins.now c.args.versions.now) in
-    let m = c.args.catalogue.now.versions in
+    let m = c.args.best.now in
     let one = c.in-Some-other_of.kept.now in
     ap (map (λ note. says note)) c.in_ok-push.ensures.items
     ∙ note_more files m (map (λ p. (p.0.now, p.1.now)) c.loop-origin.yielded) (c.in-Some.origin.now, c.in-Some.version.now)
@@ -45,7 +45,7 @@ loop-origin-preserved-in_ok-push g c =
 pub returns-clause-all : goal.returns-clause-all
 returns-clause-all g c =
     c.loop-origin.invariant
-    ∙ ap (named (files_of (zip c.args.origins.now c.args.versions.now)) c.args.catalogue.now.versions)
+    ∙ ap (named (files_of (zip c.args.origins.now c.args.versions.now)) c.args.best.now)
     (YieldsList-end (YieldsList-from_zip (YieldsList-from_slice c.args.origins.now cc)
     (YieldsList-from_slice c.args.versions.now cc))
     c.loop-origin.yielded _ c.loop-origin.yielded_by _ c.next.new.self c.in-None.is c.next.ensures.steps).0

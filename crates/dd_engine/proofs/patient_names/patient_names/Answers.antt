@@ -10,13 +10,13 @@ use Rattle.dd_engine.proofs.patient_names.patient_names.Goals as goal
 pub returns-then-is_empty-clause-named : goal.returns-then-is_empty-clause-named
 returns-then-is_empty-clause-named c =
     let none = nil_from_length c.args.versions.now (search rules) in
-    subst (λ all. AreNamed (with_kept_digest c.args.catalogue.now.versions all) c.new.result.items) (sym none)
+    subst (λ all. AreNamed (with_kept_digest c.args.best.now all) c.new.result.items) (sym none)
     (subst (λ patients. AreNamed [] patients) (sym c.new.ensures.items) none_named)
 
 pub returns-clause-named : goal.returns-clause-named
 returns-clause-named c =
     let namings = c.in_order-namings.result.items in
-    let versions = with_kept_digest c.args.catalogue.now.versions c.args.versions.now in
+    let versions = with_kept_digest c.args.best.now c.args.versions.now in
     let same : SameMembers namings (map naming_of versions) =
     subst (λ all. SameMembers namings all) c.in_ok-namings_of.ensures c.in_order-namings.ensures.same in
     let named = are_named versions namings same c.in_order-namings.ensures.rising in
