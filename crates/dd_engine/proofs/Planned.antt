@@ -1,4 +1,4 @@
--- The plan of what is kept of versions, or why there is none.
+-- The plan of the versions that a catalogue keeps, or the fault that refuses it.
 use Rattle.std.specs.Prelude.{◌≡◌, ◌≢◌, ◌⊎◌, List, [], ◌∷◌, length, map, Option, None, Some}
 use Rattle.std.specs.List.{zip}
 use Rattle.std.proofs.Common.{refl, sym, ◌∙◌, ap, subst, inl, inr}

@@ -25,7 +25,7 @@ zip_is sources numbers versions p v =
 
 -- ---- numbers of sources
 
--- those that are skipped are below the end
+-- the number of each skipped source is below the count of sources
 pub skipped_below : (n at : ℕ) (answers : List Answer) → at + length answers ≤ n
     → All (λ skip. skip.0 < n) (skipped_from at answers)
 skipped_below n at [] h = All-nil (λ (skip : ℕ × KeyFault). skip.0 < n)
@@ -34,7 +34,7 @@ skipped_below n at (Err fault ∷ answers) h =
     All-cons (λ (skip : ℕ × KeyFault). skip.0 < n) (at, fault) (skipped_from (suc at) answers) (omega arith)
     (skipped_below n (suc at) answers (omega arith))
 
--- and so are those that have a version
+-- the number of each source with a version is below the count of sources
 pub accepted_below : (n at : ℕ) (answers : List Answer) → at + length answers ≤ n
     → AllByRecursion (λ file. file.0 < n) (files_of (accepted_from at answers))
 accepted_below n at [] h = tt
