@@ -9,7 +9,7 @@ export PREFIX DESTDIR
 program := prebuilt/x86_64-linux-gnu/dicomdir
 # They do the work of 'dicomdir index'. Each has a man page and completions by its name.
 scripts := dicomdir-parallel dicomdir-slurm
-version := $(shell cat packaging/version)
+version := $(shell packaging/version)
 share := "$$DESTDIR$$PREFIX/share"
 bin := "$$DESTDIR$$PREFIX/bin"
 ours := $(share)/doc/dicomdir
@@ -41,7 +41,7 @@ install:
 	install -D -m 644 packaging/completions/_dicomdir $(share)/zsh/site-functions/_dicomdir
 	install -D -m 644 packaging/completions/dicomdir.fish $(share)/fish/vendor_completions.d/dicomdir.fish
 	install -m 644 $(scripts:%=packaging/completions/%.fish) $(share)/fish/vendor_completions.d
-	install -D -m 644 README.md $(ours)/README.md
+	install -D -m 644 -t $(ours) README.md CHANGELOG.md $(program).made-from
 	install -d $(ours)/docs $(ours)/docs/images
 	install -m 644 docs/*.md $(ours)/docs
 	install -m 644 docs/images/*.svg $(ours)/docs/images
@@ -53,7 +53,7 @@ uninstall:
 			$(share)/fish/vendor_completions.d/$$name.fish || exit 1; done
 	rm -f $(share)/zsh/site-functions/_dicomdir $(share)/dicomdir/functions $(share)/dicomdir/lines \
 		$(share)/dicomdir/slurm-job
-	rm -f $(ours)/README.md $(ours)/docs/*.md $(ours)/docs/images/*.svg
+	rm -f $(ours)/README.md $(ours)/CHANGELOG.md $(ours)/dicomdir.made-from $(ours)/docs/*.md $(ours)/docs/images/*.svg
 	for folder in $(ours)/docs/images $(ours)/docs $(ours) $(share)/dicomdir; do \
 		if [ -d "$$folder" ]; then rmdir --ignore-fail-on-non-empty "$$folder"; fi; done
 

@@ -22,7 +22,7 @@ complete -c dicomdir -n '__fish_seen_subcommand_from index merge withdraw' -l id
 complete -c dicomdir -n '__fish_seen_subcommand_from index merge withdraw' -l uid -x \
     -d 'UID of the file-set; else made from its content'
 complete -c dicomdir -n '__fish_seen_subcommand_from index merge withdraw' -l max-bytes -x \
-    -d 'Most bytes of DICOMDIR; by default 4294967295'
+    -d 'Most bytes of DICOMDIR, not of the disc, such as 650M or 3G'
 complete -c dicomdir -n '__fish_seen_subcommand_from index merge withdraw' -l strict \
     -d 'Makes nothing where something would be left out'
 complete -c dicomdir -n '__fish_seen_subcommand_from index merge withdraw' -l dry-run \

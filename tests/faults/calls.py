@@ -224,6 +224,9 @@ def judge(case, run, task):
         found.append("an image is copied whose hard link was not refused")
     if not (is_as_failed(case, run, task) or (task[2] == "EINTR" and run.is_as(case.right))):
         found.append("it is not what has to come of this")
+    cause = f"  cause: {os.strerror(getattr(errno, task[2]))}\n"
+    if any(line.startswith("  cause: ") and line != cause for line in run.hints):
+        found.append("the cause is another one")
     return found
 
 

@@ -32,6 +32,7 @@ class Command:
 
 COMMANDS = [
     Command("index of one image", "index OUT a.dcm --uid 2.25.0"),
+    Command("index of one image, with hints", "index OUT a.dcm --uid 2.25.0 --verbose"),
     Command("index of three images and a text", "index OUT a.dcm b.dcm text c.dcm --uid 2.25.0"),
     Command("index of an image and a text, which is refused", "index OUT a.dcm text --uid 2.25.0 --strict"),
     Command("index of a list of names, which makes nothing",
@@ -42,6 +43,8 @@ COMMANDS = [
     Command("index into a folder that is there", "index OUT b.dcm --uid 2.25.0", before="OTHER"),
     Command("index into a folder that has a set", "index OUT a.dcm --uid 2.25.0", before="SETA"),
     Command("merge of two sets", "merge OUT SETA SETB --uid 2.25.0"),
+    Command("merge of two sets, with hints", "merge OUT SETA SETB --uid 2.25.0 --verbose"),
+    Command("merge of two sets by hard links, with hints", "merge OUT SETA SETB --link --uid 2.25.0 --verbose"),
     Command("merge of two sets by hard links", "merge OUT SETA SETB --link --uid 2.25.0"),
     Command("merge of two sets with other bytes of an image, which is refused",
             "merge OUT SETA SETN --uid 2.25.0 --strict"),
@@ -75,7 +78,9 @@ class Run:
     # None where it hangs.
     status: int
     out: str
+    # Without the lines of hints.
     err: str
+    hints: list
     # The bytes of each file in OUT by its path, and None for a folder.
     left: dict
     # The path of each hard link in OUT to a given file, and that file's path.
@@ -241,7 +246,9 @@ class Room:
         calls = calls_of(text_of(self.log))
         refused += sum(call.is_refused for call in calls)
         left, links = tree("OUT"), links_of(self.given)
-        return Run(status, text_of(self.out), text_of(self.err), left, links, calls, allocations, refused)
+        said = text_of(self.err).splitlines(keepends=True)
+        err, hints = [[line for line in said if line.startswith("  ") == is_hint] for is_hint in (False, True)]
+        return Run(status, text_of(self.out), "".join(err), hints, left, links, calls, allocations, refused)
 
     def learn(self, command):
         """Runs a command undisturbed."""

@@ -1,5 +1,6 @@
 mod Answering
 mod BothFound
+mod CountedImages
 pub mod FaultsNamed
 mod FilesLeftOut
 mod FirstMarks

@@ -1,7 +1,7 @@
 -- What is noted of file-sets as sets: of which of them not all records are reached, which images are withdrawn, and
 -- which given UIDs are in no record.
 use Rattle.std.specs.Prelude.{◌≡◌, ◌<◌, Bool, ℕ, suc, nat_lt, List, [], ◌∷◌, ◌++◌, All, map, filter, Option, None, Some}
-use Rattle.std.specs.Prelude.{option_map, if◌then◌else◌}
+use Rattle.std.specs.Prelude.{length, option_map, if◌then◌else◌}
 use Rattle.std.specs.List.{enumerate_from, filter_map, list_any}
 use Rattle.dd_catalogue.specs.Conflicts.{same}
 use Rattle.dd_dir.specs.OwnVersions.{place_of}
@@ -10,7 +10,7 @@ use Rattle.dd_engine.specs.declared.merge.Pick.{Pick}
 use Rattle.dd_engine.specs.declared.set_notes.SetNotes.{SetNotes}
 use Rattle.dd_engine.specs.declared.set_notes.Unreached.{Unreached}
 use Rattle.dd_engine.specs.declared.set_notes.WithdrawnImage.{WithdrawnImage}
-use Rattle.dd_engine.specs.Merging.{SetListing, filed_in, numbered, pick_view, withdrawn_in}
+use Rattle.dd_engine.specs.Merging.{SetListing, filed_in, numbered, pick_view, versions_in, withdrawn_in}
 
 -- ---- sets with records that are not reached
 
@@ -69,9 +69,18 @@ instances_in listings = map (λ image. (place_of image.1).uid) (numbered 0 listi
 abbrev pub unlisted_in : List (List ℕ) → List SetListing → List (List ℕ)
 unlisted_in given listings = new_to (instances_in listings ++ withdrawn_in listings) given
 
+-- ---- how many images there are
+
+-- how many of the versions have one of these UIDs
+abbrev pub count_among : List (List ℕ) → List Parts → ℕ
+count_among uids versions = length (filter (λ version. is_among uids version.instance) versions)
+
 -- ---- all notes
 
 pub record AreSetNotes (given : List (List ℕ)) (listings : List SetListing) (notes : SetNotes) : Type 0 where
+  pub images : notes.images ≡ length (numbered 0 listings)
+  pub all_withdrawn : notes.all_withdrawn
+      ≡ count_among (given ++ withdrawn_in listings) (versions_in (numbered 0 listings))
   pub unreached : AreUnreached listings notes.unreached.items
   pub withdrawn : AreWithdrawn given listings notes.withdrawn.items
   pub unlisted : notes.unlisted.items ≡ unlisted_in given listings

@@ -200,7 +200,7 @@ fn add_origins<'a>(to: &mut Vec<Pick<'a>>, at: usize, files: &[&'a [u8]]) -> Res
     Ok(())
 }
 
-fn add_numbers(
+pub(crate) fn add_numbers(
     to: &mut Vec<Option<usize>>,
     number: Option<usize>,
     uids: &[Uid],

@@ -5,9 +5,9 @@ ghost use Rattle.std.specs.List.Sorted.{IsSorted};
 ghost use Rattle.dd_engine.specs.Mentions.{first_number, in_places, mention_cmp, mention_view};
 ghost use Rattle.dd_engine.specs.Merging.{SetListing, IsGiven};
 ghost use Rattle.dd_engine.specs.MergeSteps.{GathersOf, known_in};
-ghost use Rattle.dd_engine.specs.SetNotes.{AreSetNotes, AreWithdrawn, new_to, withdrawn_among};
+ghost use Rattle.dd_engine.specs.SetNotes.{AreSetNotes, AreWithdrawn, count_among, new_to, withdrawn_among};
 
-use crate::gathering::Gathered;
+use crate::gathering::{Gathered, add_numbers};
 use crate::mentions::{Mention, first_number, in_order, mentions_of};
 use crate::merge::Pick;
 use dd_elem::{Memory, Uid};
@@ -34,9 +34,13 @@ pub struct WithdrawnImage<T> {
     pub instance: Uid,
 }
 
-/// Notes on the sets of a merge: which records a walk does not reach, and what is withdrawn.
+/// Notes on the sets of a merge: how many images they list, which records a walk does not reach, and what is withdrawn.
 #[derive(Debug)]
 pub struct SetNotes<'a> {
+    /// How many images the sets list, those that are withdrawn included.
+    pub images: usize,
+    /// How many of these have a UID that is given, or that a set withdraws.
+    pub all_withdrawn: usize,
     /// The sets with records that a walk does not reach, in their order; a set that is given twice is there twice.
     pub unreached: Vec<Unreached>,
     /// The images whose instance a set withdraws, in the order of the records: set by set, depth first in each.
@@ -50,6 +54,8 @@ pub struct SetNotes<'a> {
 impl Drop for SetNotes<'_> {
     fn drop(self) {
         let SetNotes {
+            images: _,
+            all_withdrawn: _,
             unreached: _unreached,
             withdrawn: _withdrawn,
             unlisted: _unlisted,
@@ -72,10 +78,32 @@ pub(crate) fn set_notes<'a>(
     let withdrawn = withdrawn_images(alloc, gathered)?;
     let unlisted = unlisted_uids(alloc, gathered, given)?;
     Ok(SetNotes {
+        images: gathered.versions.len(),
+        all_withdrawn: count_of(alloc, &gathered.versions, &gathered.withdrawn)?,
         unreached,
         withdrawn,
         unlisted,
     })
+}
+
+/// Counts the versions whose UID is among these.
+fn count_of(alloc: Global, versions: &[Version], uids: &[Uid]) -> Result<usize, Memory>
+    ensures all { IfOk result (λ count. count ≡ count_among uids.now versions.now) }
+    ensures some { OnErr result (uids.now ≢ []) }
+{
+    if uids.is_empty() {
+        return Ok(0);
+    }
+    let mut numbers = Vec::new(alloc);
+    add_numbers(&mut numbers, Some(0), uids)?;
+    let mentions = in_order(mentions_of(alloc, uids, &numbers)?)?;
+    let mut count = 0;
+    for version in versions {
+        if first_number(&mentions, &version.parts().instance).is_some() {
+            count += 1;
+        }
+    }
+    Ok(count)
 }
 
 fn unreached_sets(alloc: Global, counts: &[u64]) -> Result<Vec<Unreached>, Memory>

@@ -4,11 +4,12 @@ mod LineCommands
 mod LineEach
 mod LineFlag
 mod LineHelp
-mod LineLimit
 mod LineNames
 mod LinePaths
 mod LineRequests
 mod LineRows
 mod LineServes
+mod LineValues
 mod LineVerbs
 mod LineWalk
+mod SizeCuts

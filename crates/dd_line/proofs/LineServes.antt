@@ -10,14 +10,13 @@ use Rattle.clap.specs.Faults.{entered_fault, level_fault}
 use Rattle.clap.specs.Simple.{App, Shape, entered, filled, label_of, rows_at, with_index}
 use Rattle.clap.specs.Takes.{is_given}
 use Rattle.clap.specs.Walk.{Rule, Text, answers_to, nothing_held, rows_after}
-use Rattle.clap.specs.declared.builder.value_parser.Reading.TheVariants.{AsWritten, WithoutMinus}
-use Rattle.dd_line.specs.Line.{flags, given_for, lacked, number_option, one_path, some_paths, verb_name}
-use Rattle.dd_line.specs.Requests.{GivesPaths, HasLimit, HasOne, IsAbsent, NamesCommand}
+use Rattle.clap.specs.declared.builder.value_parser.Reading.TheVariants.{AsWritten}
+use Rattle.dd_line.specs.Line.{flags, given_for, lacked, one_path, some_paths, verb_name}
+use Rattle.dd_line.specs.Requests.{GivesPaths, HasOne, IsAbsent, NamesCommand}
 use Rattle.dd_line.specs.declared.line.Verb.{Verb}
 use Rattle.dd_line.proofs.LineEach.{Each, among_each, each_found, named_each, named_in}
 use Rattle.dd_line.proofs.LineFlag.{flag_rules, level_flags}
 use Rattle.dd_line.proofs.LineHelp.{NotHelp}
-use Rattle.dd_line.proofs.LineLimit.{ArePassed, level_limit, limit_fits}
 use Rattle.dd_line.proofs.LinePaths.{AreNone, AreOne, AreSome, joined, level_absent, level_values, one_fits, some_fits}
 use Rattle.dd_line.proofs.LineRows.{all_fit}
 use Rattle.dd_line.proofs.LineWalk.{level_given}
@@ -107,13 +106,6 @@ module _ (s : Shape) (words : List Text) (plain : IsPlain s) (none : IsFaultless
   some_given name i some = level_values name AreSome s words
       (all_fit name AsWritten (λ _. AreSome) s.rules (rw some (some_fits _ _ joined refl refl refl, tt)))
       plain.once none (given_named name _ some)
-
-  -- a limit
-  pub limit_given : named_in (codes "max-bytes") s.rules
-      ≡ with_index 0 (filled (number_option (codes "max-bytes"))) ∷ []
-      → HasLimit (rows_after s.rules [] words)
-  limit_given one = level_limit s words (all_fit (codes "max-bytes") WithoutMinus (λ _. ArePassed) s.rules
-      (rw one (limit_fits _ refl refl refl refl refl, tt))) plain.once none
 
 pub command_serves : (verb : Verb) (s : Shape) → IsCommand verb s → Serves s
 command_serves verb s is name met other words none =

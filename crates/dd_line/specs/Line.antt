@@ -9,8 +9,7 @@
 -- OPTIONS are `[--id ID] [--uid UID] [--max-bytes N] [--strict] [--dry-run] [--quiet] [--verbose]`. Where
 -- `--files0-from` is given, SRC or SET may be left out.
 use Rattle.std.specs.Prelude.{◌≡◌, ◌≢◌, ◌++◌, [], ℕ, List, Option, Some, None, map, string_bytes, String}
-use Rattle.std.specs.Prelude.{Bool, Contains, codes, length, option_map, pos, ◌≤◌, true, false, unwrap_or}
-use Rattle.std.specs.Str.Parse.{IsNumeral, signed_digits_value, without_leading_sign}
+use Rattle.std.specs.Prelude.{Bool, Contains, codes, length, option_map, ◌≤◌, true, false, unwrap_or}
 use Rattle.clap.specs.Takes.{is_given}
 use Rattle.clap.specs.Words.{App, Row, Rule, Text, all_of, app_of, first_of, kind_of}
 use Rattle.clap.specs.Words.{new_app, new_rule, rule_of, with_rule}
@@ -19,14 +18,14 @@ use Rattle.clap.specs.declared.builder.action.ArgAction.TheVariants.{SetTrue}
 use Rattle.clap.specs.declared.builder.arg.Arg.{Arg}
 use Rattle.clap.specs.declared.builder.command.Command.{Command}
 use Rattle.clap.specs.declared.builder.command.Command.TheViews.{out-Command as fields_of}
-use Rattle.clap.specs.declared.builder.value_parser.ValueParser.TheVariants.{Signed}
 use Rattle.clap.specs.declared.error.Error.{Error}
-use Rattle.clap.specs.declared.error.kind.ErrorKind.TheVariants.{MissingRequiredArgument, OutOfMemory}
+use Rattle.clap.specs.declared.error.kind.ErrorKind.TheVariants.{MissingRequiredArgument, OutOfMemory, ValueValidation}
 use Rattle.std.specs.Prelude.{◌⊎◌, ◌∷◌, IfErr, MatchResult, Result, if◌then◌else◌}
 use Rattle.std.specs.List.{list_any}
 use Rattle.std.specs.Str.{bytes_eq}
 use Rattle.dd_elem.specs.SetId.{IsSetId}
 use Rattle.dd_elem.specs.Uid.{IsUid}
+use Rattle.dd_line.specs.Sizes.{IsSize}
 use Rattle.dd_line.specs.declared.line.Asked.{Asked}
 use Rattle.dd_line.specs.declared.line.LineFault.{LineFault}
 use Rattle.dd_line.specs.declared.line.LineFault.TheVariants.{Refused, Memory}
@@ -100,10 +99,6 @@ text_option name = record (new_rule name) { long = Some name; value_names = 1 }
 abbrev pub most_bytes : ℕ
 most_bytes = 4294967295
 
--- an option whose value is a number of 32 bits
-abbrev pub number_option : Text → Rule
-number_option name = record (text_option name) { parser = Some (Signed (pos 0) (pos most_bytes)) }
-
 -- a flag `--NAME` that may be left out
 abbrev pub flag : Text → Rule
 flag name = record (new_rule name) { long = Some name; action = Some SetTrue }
@@ -127,7 +122,7 @@ abbrev pub labelled_app : Text → App
 labelled_app name = with_rule (with_rule (with_rule (new_app name)
     (text_option id_name))
     (text_option uid_name))
-    (number_option max_bytes_name)
+    (text_option max_bytes_name)
 
 -- one that may make it: `[--id ID] [--uid UID] [--max-bytes N] [--strict] [--dry-run]`
 abbrev pub making_app : Text → App
@@ -280,11 +275,14 @@ TakesSources Withdraw = ⊥
 TakesSources Check = ⊥
 TakesSources ListSet = ⊥
 
--- the number that the text of `--max-bytes` spells in decimal, or the greatest limit where it is not given
+-- the number that the text of `--max-bytes` spells, or the greatest limit where it is not given
 abbrev pub IsLimit : Option Text → ℕ → Type 0
 IsLimit None limit = limit ≡ most_bytes
-IsLimit (Some text) limit =
-    IsNumeral 10 (without_leading_sign text) × (signed_digits_value 10 text ≡ pos limit)
+IsLimit (Some text) limit = IsSize text limit
+
+-- the text spells no number of bytes that a limit may be
+abbrev pub IsNoLimit : Text → Type 0
+IsNoLimit text = (bytes : ℕ) → bytes ≤ most_bytes → ¬ IsSize text bytes
 
 -- the line asks for the command that its words name, with the values that they give, and has each flag exactly where
 -- they set it
@@ -359,6 +357,10 @@ abbrev pub GivesOption : Text → Option (Text × List Row) → Text → Type 0
 GivesOption name None value = ⊥
 GivesOption name (Some (command, given)) value = first_of name given ≡ Some value
 
+-- the words give a wrong limit
+abbrev pub HasBadLimit : Option (Text × List Row) → Type 0
+HasBadLimit found = (text : Text) × GivesOption max_bytes_name found text × IsNoLimit text
+
 -- the words give this among the UIDs of images
 abbrev pub GivesInstance : Option (Text × List Row) → Text → Type 0
 GivesInstance None uid = ⊥
@@ -380,26 +382,35 @@ abbrev pub IsMissingArgument : LineFault → Type 0
 IsMissingArgument (Refused e) = kind_of e ≡ MissingRequiredArgument
 IsMissingArgument Memory = ⊥
 
--- a refusal is for lack of memory, or says that an argument is missing, where one is
-abbrev pub IsRefusedAsMissing : Type 0 → LineFault → Type 0
-IsRefusedAsMissing Lacks fault = (fault ≡ Memory) ⊎ (Lacks × IsMissingArgument fault)
+-- a refusal says that a value is wrong
+abbrev pub IsWrongValue : LineFault → Type 0
+IsWrongValue (Refused e) = kind_of e ≡ ValueValidation
+IsWrongValue Memory = ⊥
 
--- the result is such a refusal, or no argument is missing
-abbrev pub RefusesMissing : {T : Type 0} → Type 0 → Result T LineFault → Type 0
-RefusesMissing Lacks result = MatchResult result (λ _. ¬ Lacks) (IsRefusedAsMissing Lacks)
+-- a refusal is for lack of memory, or says that a value is wrong or that an argument is missing, where it is so
+abbrev pub IsRefusedWhere : Type 0 → Type 0 → LineFault → Type 0
+IsRefusedWhere Wrong Lacks fault =
+    (fault ≡ Memory) ⊎ ((Wrong × IsWrongValue fault) ⊎ (Lacks × IsMissingArgument fault))
 
--- words that the parser takes are refused for lack of memory, or since they give no source
+-- the result is such a refusal, or no value is wrong and no argument is missing
+abbrev pub RefusesWhere : {T : Type 0} → Type 0 → Type 0 → Result T LineFault → Type 0
+RefusesWhere Wrong Lacks result = MatchResult result (λ _. ¬ Wrong × ¬ Lacks) (IsRefusedWhere Wrong Lacks)
+
+-- words that the parser takes are refused for lack of memory, or since their limit is wrong, or since they give no source
 abbrev pub PassesTaken : {T : Type 0} → List Text → Result T LineFault → Type 0
 PassesTaken words result = IfErr result (λ fault. takes dicomdir_app words ≡ true
-    → IsRefusedAsMissing (LacksSources (subcommand_of dicomdir_app words)) fault)
+    → IsRefusedWhere (HasBadLimit (subcommand_of dicomdir_app words))
+    (LacksSources (subcommand_of dicomdir_app words)) fault)
 
--- words are refused for a fault that the parser finds in them, or, where it finds none, since they give no source
+-- words are refused for a fault that the parser finds in them, or, where it finds none, since their limit is wrong, or
+-- since they give no source
 abbrev pub RefusesByKind : {T : Type 0} → List Text → Result T LineFault → Type 0
 RefusesByKind words result = MatchResult result
-    (λ _. (fault_of dicomdir_app words ≡ []) × ¬ LacksSources (subcommand_of dicomdir_app words))
+    (λ _. (fault_of dicomdir_app words ≡ []) × ¬ HasBadLimit (subcommand_of dicomdir_app words)
+    × ¬ LacksSources (subcommand_of dicomdir_app words))
     (λ fault. IsRefusedFor (fault_of dicomdir_app words) fault
-    ⊎ ((fault_of dicomdir_app words ≡ []) × LacksSources (subcommand_of dicomdir_app words)
-    × IsMissingArgument fault))
+    ⊎ ((fault_of dicomdir_app words ≡ []) × IsRefusedWhere (HasBadLimit (subcommand_of dicomdir_app words))
+    (LacksSources (subcommand_of dicomdir_app words)) fault))
 
 -- the fault of an error of the parser
 abbrev pub IsFaultOf : Error → LineFault → Type 0

@@ -1,16 +1,17 @@
 -- What the words give each command, and the request that is made of it.
 use Rattle.std.specs.Prelude.{◌≡◌, ◌≤◌, [], ◌∷◌, List, Option, Some, None, Bool, true, false, codes, length}
-use Rattle.std.specs.Prelude.{Contains, String, option_and_then, option_map, pos, string_bytes, ◌⊎◌}
+use Rattle.std.specs.Prelude.{Contains, String, option_and_then, option_map, string_bytes, ◌⊎◌}
 use Rattle.std.specs.Option.{option_map_or}
 use Rattle.std.specs.declared.alloc.Global.{Global}
 use Rattle.std.specs.List.{find}
 use Rattle.std.specs.Str.{bytes_eq}
 use Rattle.clap.specs.Takes.{is_given}
-use Rattle.clap.specs.Words.{IsSignedIn, Row, Text, first_of, one_of, without_minus}
+use Rattle.clap.specs.Words.{Row, Text, first_of, one_of}
 use Rattle.dd_elem.specs.SetId.{IsSetId}
 use Rattle.dd_elem.specs.Uid.{IsUid}
 use Rattle.dd_line.specs.Line as line
-use Rattle.dd_line.specs.Line.{IsLimit, flag_names, given_for, given_paths, is_among, lacked, most_bytes, verb_name, words_of}
+use Rattle.dd_line.specs.Line.{IsLimit, IsNoLimit, flag_names, given_for, given_paths, is_among, lacked, most_bytes}
+use Rattle.dd_line.specs.Line.{verb_name, words_of}
 use Rattle.dd_line.specs.declared.line.Asked.{Asked}
 use Rattle.dd_line.specs.declared.line.Verb.{Verb}
 use Rattle.dd_line.specs.declared.line.Verb.TheVariants.{Index, Merge, Withdraw, Check, List as ListSet}
@@ -35,12 +36,6 @@ IsAbsent name given = find (λ r. bytes_eq r.id name) given ≡ None
 abbrev pub LacksOthers : Verb → List Row → Type 0
 LacksOthers verb given = (name : Text) → is_among (lacked verb) name ≡ true → IsAbsent name given
 
--- the text that `--max-bytes` was given, if any, is a number of 32 bits
-abbrev pub HasLimit : List Row → Type 0
-HasLimit given = (text : Text) → first_of line.max_bytes_name given ≡ Some text
-    → (one_of line.max_bytes_name given ≡ Some (without_minus text))
-    × IsSignedIn (pos 0) (pos most_bytes) text
-
 -- the text of a flag is `true` where the flag is set. Where it is not set the text is `false`, or there is no text,
 -- since the command has no such flag
 abbrev pub IsFlagText : Bool → Option Text → Type 0
@@ -59,21 +54,16 @@ HasFlags given = (name : Text) → is_among flag_names name ≡ true → HasFlag
 abbrev pub HasOne : Text → List Row → Type 0
 HasOne name given = length (given_for name given) ≡ 1
 
--- the folder of a new file-set was given, and a limit for its directory
-pub record GivesNewSet (given : List Row) : Type 0 where
-  pub limit : HasLimit given
-  pub out : HasOne line.out_name given
-
--- and the folder of an old one, with at least one image
+-- the folders of a new file-set and of an old one were given, with at least one image
 pub record GivesInstances (given : List Row) : Type 0 where
-  pub new_set : GivesNewSet given
+  pub out : HasOne line.out_name given
   pub set : HasOne line.set_name given
   pub instances : 1 ≤ length (given_for line.instance_name given)
 
--- a command of this kind was given the paths that it needs, with their options
+-- a command of this kind was given the paths that it needs
 abbrev pub GivesPaths : Verb → List Row → Type 0
-GivesPaths Index given = GivesNewSet given
-GivesPaths Merge given = GivesNewSet given
+GivesPaths Index given = HasOne line.out_name given
+GivesPaths Merge given = HasOne line.out_name given
 GivesPaths Withdraw given = GivesInstances given
 GivesPaths Check given = HasOne line.set_name given
 GivesPaths ListSet given = HasOne line.set_name given
@@ -109,6 +99,10 @@ pub record MakesAsGiven (n : NewSet) (given : List Row) : Type 0 where
 pub record HasSources (name : Text) (given : List Row) (s : Sources) : Type 0 where
   pub words : words_of s.words.items ≡ given_for name given
   pub files0_from : option_map string_bytes s.files0_from ≡ first_of line.files0_from_name given
+
+-- the words give a wrong limit
+abbrev pub GivesNoLimit : List Row → Type 0
+GivesNoLimit given = (text : Text) × (first_of line.max_bytes_name given ≡ Some text) × IsNoLimit text
 
 -- the words give no source
 pub record GivesNoSource (name : Text) (given : List Row) : Type 0 where

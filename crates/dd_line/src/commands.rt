@@ -3,16 +3,16 @@ ghost use Rattle.std.specs.Prelude.{◌≡◌, IfOk};
 ghost use Rattle.clap.specs.Words.{kind_of};
 ghost use Rattle.dd_line.specs.Line.{HasApp, HasRule, any_paths, check_app, comparing_app, dicomdir_app};
 ghost use Rattle.dd_line.specs.Line.{files0_from_name, flag, index_app, labelled_app, list_app};
-ghost use Rattle.dd_line.specs.Line.{making_app, merge_app, number_option, one_path, reading_app};
+ghost use Rattle.dd_line.specs.Line.{making_app, merge_app, one_path, reading_app};
 ghost use Rattle.dd_line.specs.Line.{some_paths, text_option, verbose_name, withdraw_app, writing_app};
 
 use crate::endings;
 use crate::line::Verb;
+use crate::sizes::has_unit;
+use crate::version::VERSION;
 use clap::error::ErrorKind;
 use clap::{Arg, ArgAction, Command, Error, value_parser};
 use std::alloc::{AllocError, Global};
-
-const VERSION: &str = "1.0.0";
 
 // The names of the options.
 pub(crate) const ID: &str = "id";
@@ -55,12 +55,6 @@ fn option<'a>(alloc: Global, name: &'a str, value_name: &'a str, help: &'a str) 
         .long(name)
         .value_name(value_name)
         .help(help)
-}
-
-fn number<'a>(alloc: Global, name: &'a str, value_name: &'a str, help: &'a str) -> Arg<'a>
-    ensures { HasRule (number_option name.entry.now) result }
-{
-    option(alloc, name, value_name, help).value_parser(value_parser!(u32))
 }
 
 fn flag<'a>(alloc: Global, name: &'a str, help: &'a str) -> Arg<'a>
@@ -137,11 +131,11 @@ fn labelled_command<'a>(
             "UID",
             "UID of the file-set; else made from its content",
         ))?
-        .arg(number(
+        .arg(option(
             alloc,
             MAX_BYTES,
             "N",
-            "Most bytes of DICOMDIR; by default 4294967295",
+            "Most bytes of DICOMDIR, not of the disc, such as 650M or 3G",
         ))
 }
 
@@ -289,18 +283,51 @@ fn list_command<'a>(alloc: Global) -> Result<Command<'a>, AllocError>
         .arg(verbose(alloc))
 }
 
+/// Makes a command that makes a file-set, with the name by which the user calls it.
+fn command_of<'a>(alloc: Global, verb: Verb) -> Result<Command<'a>, AllocError> {
+    match verb {
+        Verb::Merge => merge_command(alloc)?.bin_name("dicomdir merge"),
+        Verb::Withdraw => withdraw_command(alloc)?.bin_name("dicomdir withdraw"),
+        _ => index_command(alloc)?.bin_name("dicomdir index"),
+    }
+}
+
 /// Makes the error for a line without a source.
 pub(crate) fn no_source(alloc: Global, verb: Verb) -> Result<Error, AllocError>
     ensures { IfOk result (λ e. kind_of e ≡ ErrorKind.MissingRequiredArgument) }
 {
-    let mut command = match verb {
-        Verb::Merge => merge_command(alloc)?.bin_name("dicomdir merge")?,
-        _ => index_command(alloc)?.bin_name("dicomdir index")?,
-    };
-    command.error(
+    command_of(alloc, verb)?.error(
         ErrorKind::MissingRequiredArgument,
         "no source is given: name one, or give --files0-from FILE",
     )
+}
+
+/// Makes the error for a wrong value of `--max-bytes`.
+pub(crate) fn wrong_limit(alloc: Global, verb: Verb, value: &str) -> Result<Error, AllocError>
+    ensures { IfOk result (λ e. kind_of e ≡ ErrorKind.ValueValidation) }
+{
+    if !has_unit(value) {
+        if let Err(error) = number_in_line(alloc, value)? {
+            if error.kind() == ErrorKind::ValueValidation {
+                return Ok(error);
+            }
+        }
+    }
+    let message = format!(in alloc;
+        "invalid value '{value}' for '--max-bytes <N>': more than 4294967295 bytes"
+    )?;
+    command_of(alloc, verb)?.error(ErrorKind::ValueValidation, message.as_str())
+}
+
+/// Has the parser say what is wrong with a number.
+fn number_in_line(alloc: Global, value: &str) -> Result<Result<(), Error>, AllocError> {
+    let number = option(alloc, MAX_BYTES, "N", "").value_parser(value_parser!(u32));
+    let command = Command::new(alloc, "dicomdir").arg(number)?;
+    let words = ["dicomdir", "--max-bytes", value];
+    Ok(match command.try_get_matches_from(&words) {
+        Ok(_) => Ok(()),
+        Err(error) => Err(error),
+    })
 }
 
 pub(crate) fn program<'a>(alloc: Global) -> Result<Command<'a>, AllocError>

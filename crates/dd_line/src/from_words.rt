@@ -1,9 +1,9 @@
 ghost use Rattle.std.specs.Prelude.{◌≡◌, [], Some, IfErr, IfOk, MatchResult, true};
 ghost use Rattle.clap.specs.Words.{fault_of, found_of, rows_of, subcommand_of, subcommand_rows_of, takes};
-ghost use Rattle.dd_line.specs.Line.{IsRefusedFor, LacksSources, PassesTaken, RefusesByKind, RefusesMissing};
-ghost use Rattle.dd_line.specs.Line.{dicomdir_app, verb_name, words_of};
-ghost use Rattle.dd_line.specs.Requests.{GivesNewSet, GivesNoSource, HasFlags, HasSources, IsRequested, IsServed};
-ghost use Rattle.dd_line.specs.Requests.{MakesAsGiven, NamesCommand, Requests};
+ghost use Rattle.dd_line.specs.Line.{HasBadLimit, IsRefusedFor, LacksSources, PassesTaken, RefusesByKind};
+ghost use Rattle.dd_line.specs.Line.{RefusesWhere, dicomdir_app, out_name, verb_name, words_of};
+ghost use Rattle.dd_line.specs.Requests.{GivesNoLimit, GivesNoSource, HasFlags, HasOne, HasSources, IsRequested};
+ghost use Rattle.dd_line.specs.Requests.{IsServed, MakesAsGiven, NamesCommand, Requests};
 
 use crate::commands::{self, no_source, program};
 use crate::given::{flag_of, limit_of, path_of, value_of, values_of};
@@ -15,16 +15,19 @@ use crate::request::{
 use clap::ArgMatches;
 use std::alloc::{AllocError, Global};
 
-fn new_set_of(alloc: Global, given: &ArgMatches<'_>) -> Result<NewSet, AllocError>
-    requires paths { GivesNewSet (rows_of (found_of given.now)) }
+/// Refused where the words give a wrong limit.
+fn new_set_of(alloc: Global, verb: Verb, given: &ArgMatches<'_>) -> Result<NewSet, LineFault>
+    requires out { HasOne out_name (rows_of (found_of given.now)) }
     requires flags { HasFlags (rows_of (found_of given.now)) }
-    ensures { IfOk result (λ set. MakesAsGiven set (rows_of (found_of given.now))) }
+    ensures set { IfOk result (λ set. MakesAsGiven set (rows_of (found_of given.now))) }
+    ensures wrong { RefusesWhere (GivesNoLimit (rows_of (found_of given.now))) ⊥ result }
 {
+    let max_bytes = limit_of(alloc, verb, given)?;
     Ok(NewSet {
         out: path_of(alloc, given, commands::OUT)?,
         id: value_of(alloc, given, commands::ID)?,
         uid: value_of(alloc, given, commands::UID)?,
-        max_bytes: limit_of(given),
+        max_bytes,
         strict: flag_of(given, commands::STRICT),
         dry_run: flag_of(given, commands::DRY_RUN),
         quiet: flag_of(given, commands::QUIET),
@@ -40,7 +43,7 @@ fn sources_of(
     name: &str,
 ) -> Result<Sources, LineFault>
     ensures sources { IfOk result (HasSources name.now (rows_of (found_of given.now))) }
-    ensures some { RefusesMissing (GivesNoSource name.now (rows_of (found_of given.now))) result }
+    ensures some { RefusesWhere ⊥ (GivesNoSource name.now (rows_of (found_of given.now))) result }
 {
     let words = values_of(alloc, given, name)?;
     let files0_from = value_of(alloc, given, commands::FILES0_FROM)?;
@@ -54,10 +57,10 @@ fn index_request(alloc: Global, given: &ArgMatches<'_>) -> Result<Request, LineF
     requires { IsServed Verb.Index (rows_of (found_of given.now)) }
     ensures request { IfOk result (λ request.
         Requests request (verb_name Verb.Index) (rows_of (found_of given.now))) }
-    ensures some { RefusesMissing
+    ensures wrong { RefusesWhere (GivesNoLimit (rows_of (found_of given.now)))
         (LacksSources (Some (verb_name Verb.Index, rows_of (found_of given.now)))) result }
 {
-    let new_set = new_set_of(alloc, given)?;
+    let new_set = new_set_of(alloc, Verb::Index, given)?;
     let sources = sources_of(alloc, Verb::Index, given, commands::SOURCE)?;
     Ok(Request::Index(IndexRequest { new_set, sources }))
 }
@@ -66,10 +69,10 @@ fn merge_request(alloc: Global, given: &ArgMatches<'_>) -> Result<Request, LineF
     requires { IsServed Verb.Merge (rows_of (found_of given.now)) }
     ensures request { IfOk result (λ request.
         Requests request (verb_name Verb.Merge) (rows_of (found_of given.now))) }
-    ensures some { RefusesMissing
+    ensures wrong { RefusesWhere (GivesNoLimit (rows_of (found_of given.now)))
         (LacksSources (Some (verb_name Verb.Merge, rows_of (found_of given.now)))) result }
 {
-    let new_set = new_set_of(alloc, given)?;
+    let new_set = new_set_of(alloc, Verb::Merge, given)?;
     let sets = sources_of(alloc, Verb::Merge, given, commands::SET)?;
     let link = flag_of(given, commands::LINK);
     Ok(Request::Merge(MergeRequest {
@@ -79,13 +82,14 @@ fn merge_request(alloc: Global, given: &ArgMatches<'_>) -> Result<Request, LineF
     }))
 }
 
-fn withdraw_request(alloc: Global, given: &ArgMatches<'_>) -> Result<Request, AllocError>
+fn withdraw_request(alloc: Global, given: &ArgMatches<'_>) -> Result<Request, LineFault>
     requires { IsServed Verb.Withdraw (rows_of (found_of given.now)) }
-    ensures { IfOk result (λ request.
+    ensures request { IfOk result (λ request.
         Requests request (verb_name Verb.Withdraw) (rows_of (found_of given.now))) }
+    ensures wrong { RefusesWhere (GivesNoLimit (rows_of (found_of given.now))) ⊥ result }
 {
     Ok(Request::Withdraw(WithdrawRequest {
-        new_set: new_set_of(alloc, given)?,
+        new_set: new_set_of(alloc, Verb::Withdraw, given)?,
         set: path_of(alloc, given, commands::SET)?,
         instances: values_of(alloc, given, commands::INSTANCE)?,
     }))
@@ -121,12 +125,13 @@ fn request_of(alloc: Global, found: &ArgMatches<'_>) -> Result<Request, LineFaul
     requires { NamesCommand (subcommand_rows_of found.now) }
     ensures request { IfOk result (λ request.
         IsRequested request (subcommand_rows_of found.now)) }
-    ensures some { RefusesMissing (LacksSources (subcommand_rows_of found.now)) result }
+    ensures wrong { RefusesWhere (HasBadLimit (subcommand_rows_of found.now))
+        (LacksSources (subcommand_rows_of found.now)) result }
 {
     match found.subcommand() {
         Some(("index", given)) => index_request(alloc, given),
         Some(("merge", given)) => merge_request(alloc, given),
-        Some(("withdraw", given)) => Ok(withdraw_request(alloc, given)?),
+        Some(("withdraw", given)) => withdraw_request(alloc, given),
         Some(("check", given)) => Ok(check_request(alloc, given)?),
         Some(("list", given)) => Ok(list_request(alloc, given)?),
         _ => unreachable!(),
@@ -148,8 +153,9 @@ fn matches_of<'a>(alloc: Global, words: &'a [String]) -> Result<ArgMatches<'a>, 
 
 /// Reads what the words of a command line ask for. The first word is the program's name.
 ///
-/// A line that the program does not take, or that asks for help, is `Refused`. So is `index` or `merge` without a
-/// source, as a path or by `--files0-from`.
+/// A line that the program does not take, or that asks for help, is `Refused`. So is `--max-bytes` with what is no
+/// number of bytes, or more than 4294967295, and `index` or `merge` without a source, as a path or by
+/// `--files0-from`.
 pub fn read_request(alloc: Global, words: &[String]) -> Result<Request, LineFault>
     ensures request { IfOk result (λ request.
         IsRequested request (subcommand_of dicomdir_app (words_of words.now))) }

@@ -2,10 +2,13 @@ ghost use Rattle.std.specs.Prelude.{◌≡◌, true};
 ghost use Rattle.std.specs.Prelude.{[], ◌∷◌, ◌++◌, IfOk, IsOk, option_map, string_bytes};
 ghost use Rattle.clap.specs.Takes.{is_given};
 ghost use Rattle.clap.specs.Words.{first_of, found_of, rows_of};
-ghost use Rattle.dd_line.specs.Line.{IsLimit, flag_names, given_for, is_among, max_bytes_name, words_of};
-ghost use Rattle.dd_line.specs.Requests.{HasFlags, HasLimit, HasOne, IsOnly};
+ghost use Rattle.dd_line.specs.Line.{IsLimit, RefusesWhere, flag_names, given_for, is_among, max_bytes_name};
+ghost use Rattle.dd_line.specs.Line.{words_of};
+ghost use Rattle.dd_line.specs.Requests.{GivesNoLimit, HasFlags, HasOne, IsOnly};
 
-use crate::commands::MAX_BYTES;
+use crate::commands::{MAX_BYTES, wrong_limit};
+use crate::line::{LineFault, Verb};
+use crate::sizes::size_in;
 use clap::ArgMatches;
 use std::alloc::{AllocError, Global};
 
@@ -55,12 +58,18 @@ pub(crate) fn values_of(
     Ok(words)
 }
 
-/// 4294967295 where `--max-bytes` is not given.
-pub(crate) fn limit_of(given: &ArgMatches<'_>) -> u32
-    requires { HasLimit (rows_of (found_of given.now)) }
-    ensures { IsLimit (first_of max_bytes_name (rows_of (found_of given.now))) result }
+/// 4294967295 where `--max-bytes` is not given. Refused where its value is no number of bytes up to that.
+pub(crate) fn limit_of(alloc: Global, verb: Verb, given: &ArgMatches<'_>) -> Result<u32, LineFault>
+    ensures limit { IfOk result (IsLimit (first_of max_bytes_name (rows_of (found_of given.now)))) }
+    ensures wrong { RefusesWhere (GivesNoLimit (rows_of (found_of given.now))) ⊥ result }
 {
-    given.get_one::<u32>(MAX_BYTES).unwrap_or(u32::MAX)
+    let Some(text) = given.get_str(MAX_BYTES) else {
+        return Ok(u32::MAX);
+    };
+    match size_in(text) {
+        Some(bytes) => Ok(bytes),
+        None => Err(LineFault::Refused(wrong_limit(alloc, verb, text)?)),
+    }
 }
 
 pub(crate) fn flag_of(given: &ArgMatches<'_>, name: &str) -> bool

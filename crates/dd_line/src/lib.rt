@@ -9,6 +9,8 @@ mod from_words;
 mod given;
 mod line;
 mod request;
+mod sizes;
+mod version;
 
 pub use from_words::read_request;
 pub use line::{Asked, LineFault, Verb, read_words};

@@ -1,7 +1,6 @@
 -- What a request says of the making of a file-set is what the words say.
-use Rattle.std.proofs.Common.{◌≡◌, ◌∙◌, ◌∷◌, Bool, List, [], Option, Some, None, ap, false, refl, sym, true}
-use Rattle.std.specs.Option.{option_map_or}
-use Rattle.std.specs.Prelude.{slice_index_or, string_bytes}
+use Rattle.std.proofs.Common.{◌≡◌, ◌∙◌, Bool, List, [], Option, Some, None, ap, false, refl, sym, true}
+use Rattle.std.specs.Prelude.{slice_index_or}
 use Rattle.clap.specs.Words.{Row, Text}
 use Rattle.dd_line.specs.Line.{OnlyReads, words_of}
 use Rattle.dd_line.specs.Requests.{IsRequested, folder_of, is_dry, links, paths_of, verb_of}

@@ -1,3 +1,4 @@
+mod AddingUp
 mod BadUids
 mod CountLines
 mod DryRuns

@@ -1,14 +1,13 @@
 -- The parts of a list of names: the first part, the names so far, and how the parts make the list.
 use Rattle.std.proofs.Common.{◌≡◌, ◌≢◌, ◌∙◌, ◌==◌, ◌⊎◌, ◌++◌, ◌+◌, ◌-◌, ◌<◌, ◌≤◌, ℕ, Bool, true, false}
 use Rattle.std.proofs.Common.{List, [], ◌∷◌, Some, None, ap, ap₂, append_assoc, append-nil, arith, cond, drop}
-use Rattle.std.proofs.Common.{inl, inr, length, length-drop, nat_lt, refl, subst, sym, take}
+use Rattle.std.proofs.Common.{inl, inr, length, length-drop, refl, subst, sym, take}
 use Rattle.std.specs.List.{All, Contains, flat_map, onto_first, position, position_or_len}
 use Rattle.std.proofs.Math.Nat.{le-max_right}
 use Rattle.std.proofs.lemmas.Bool.Decides.{nat_tests}
 use Rattle.std.proofs.lemmas.List.{take_all, get_or-take, get_or_at, get_or_append_left, length-append, length-take-le}
 use Rattle.std.proofs.lemmas.List.Elements.{All-cons, All-contains, All-head, All-nil, All-push, All-tail, All-weaker}
 use Rattle.std.proofs.lemmas.List.Sums.{fails_before_first, passes_at_first, split_at_first}
-use Rattle.std.proofs.lemmas.Option.{same_Some}
 use Rattle.dd_report.proofs.FirstPlaces.{first_within, none_within}
 use Rattle.dicomdir.specs.ListedNames.{AreNames, FailsAt, IsListOf, IsName, parts}
 

@@ -1,5 +1,5 @@
 -- What the words of a command line name, and what becomes of a line that is read.
-use Rattle.std.specs.Prelude.{◌≡◌, ◌≤◌, ◌⊎◌, ℕ, List, [], Option, String, slice_index_or, true, false}
+use Rattle.std.specs.Prelude.{◌≡◌, ◌≤◌, ◌⊎◌, ℕ, List, Option, String, true, false}
 use Rattle.clap.specs.Words.{Row, Text, subcommand_of, takes}
 use Rattle.dd_files.specs.Files.{Held}
 use Rattle.dd_line.specs.Line.{OnlyReads, dicomdir_app, words_of}

@@ -8,6 +8,7 @@ ghost use Rattle.dicomdir.specs.FileSupply.{contents_by};
 ghost use Rattle.dicomdir.specs.Indexes.{DoneIndexes, limits_of, most_of_source};
 ghost use Rattle.dicomdir.specs.Refusal.{IsOfWork};
 
+use crate::dates::show_dates;
 use crate::file_set::FileSet;
 use crate::file_supply::FileSupply;
 use crate::making::{Making, make_file_set, tell_plan_of_images};
@@ -49,7 +50,7 @@ pub(crate) fn run_index<F: Files + Progress + Hints, O: Write>(
 }
 
 /// Does so, and counts what becomes of the sources.
-fn index_sources<F: Files + Progress, O: Write>(
+fn index_sources<F: Files + Progress + Hints, O: Write>(
     making: Making<'_>,
     sources: &[String],
     sum: &mut Sum,
@@ -78,6 +79,7 @@ fn index_sources<F: Files + Progress, O: Write>(
     let NotedIndex { indexed, notes } = &noted;
     let is_noted = !indexed.skipped.is_empty() || has_notes(notes);
     refuse_noted(making.strict, is_noted)?;
+    show_dates(making.explains, &indexed.plan, files);
     if making.dry_run {
         let images = bytes_of(&indexed.picks, &counts);
         return Ok(tell_plan_of_images(&indexed.plan, images, out));

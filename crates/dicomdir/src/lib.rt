@@ -6,6 +6,7 @@
 
 mod copies;
 mod counted_reader;
+mod dates;
 mod empty_paths;
 mod file_set;
 mod file_supply;
@@ -27,6 +28,7 @@ mod program;
 mod refusal;
 mod set_directory;
 mod set_note_lines;
+mod set_sum;
 mod shell_path;
 mod shown_path;
 mod source_counts;

@@ -10,6 +10,7 @@ ghost use Rattle.dicomdir.specs.Merges.{DoneMerges};
 ghost use Rattle.dicomdir.specs.Noted.{IsNoted, NamesBelow};
 ghost use Rattle.dicomdir.specs.Refusal.{IsOfWork, IsStrict};
 
+use crate::dates::show_dates;
 use crate::file_set::FileSet;
 use crate::making::{Ending, Making, make_file_set, tell_counts};
 use crate::note_lines::{has_notes, refuse_noted, tell_conflict, tell_left_out, tell_names};
@@ -17,18 +18,43 @@ use crate::origins::SetFiles;
 use crate::refusal::{ProgramFault, Refusal, Subject};
 use crate::set_directory::read_directories;
 use crate::set_note_lines::{has_set_notes, tell_unlisted, tell_unreached, tell_withdrawn};
+use crate::set_sum::{SetSum, show_set_sum};
 use dd_elem::{Memory, Write};
 use dd_engine::{MergeFault, NotedFault, NotedMerge, Pick, merge_with_notes, withdraw_with_notes};
-use dd_files::{Files, Progress};
+use dd_files::{Files, Hints, Progress};
 use dd_layout::Limits;
 use std::alloc::Global;
 use std::{fmt, slice};
 
 /// Runs `merge`: reads the directories of all these file-sets, prints what is noted, and makes a file-set of their
 /// images, or prints what would be made.
-pub(crate) fn run_merge<F: Files + Progress, O: Write>(
+pub(crate) fn run_merge<F: Files + Progress + Hints, O: Write>(
     making: Making<'_>,
     sets: &[String],
+    files: &mut F,
+    out: &mut O,
+) -> Result<u8, Refusal>
+    ensures refusal { IfErr result (IsOfWork (length sets.now)) }
+    ensures status { IfOk result (λ status. status ≤ 1) }
+    ensures dry { making.entry.dry_run ≡ true → F.held files.new ≡ F.held files.old }
+    ensures made { making.entry.dry_run ≡ false
+        → DoneMerges result making.entry.names.now.choice making.entry.max_bytes []
+        (words_of sets.now) (making.entry.link ≡ true) making.entry.folder.now
+        (F.held files.old) (F.held files.new) }
+{
+    let mut sum = SetSum::new();
+    let done = merge_sets(making, sets, &mut sum, files, out);
+    if making.explains && matches!(done, Ok(0)) {
+        show_set_sum(&sum, files);
+    }
+    done
+}
+
+/// Does so, and counts what becomes of the images.
+fn merge_sets<F: Files + Progress + Hints, O: Write>(
+    making: Making<'_>,
+    sets: &[String],
+    sum: &mut SetSum,
     files: &mut F,
     out: &mut O,
 ) -> Result<u8, Refusal>
@@ -47,6 +73,7 @@ pub(crate) fn run_merge<F: Files + Progress, O: Write>(
         Ok(noted) => noted,
         Err(fault) => return Err(refuse(sets, &fault, out)),
     };
+    *sum = SetSum::of(&noted, sets.len());
     let origins = SetFiles {
         folders: sets,
         directories: &slices,
@@ -57,7 +84,7 @@ pub(crate) fn run_merge<F: Files + Progress, O: Write>(
 
 /// Runs `withdraw` on this file-set: makes a file-set of all its images but the ones that the line withdraws, or
 /// prints what would be made.
-pub(crate) fn run_withdraw<F: Files + Progress, O: Write>(
+pub(crate) fn run_withdraw<F: Files + Progress + Hints, O: Write>(
     making: Making<'_>,
     set: &String,
     files: &mut F,
@@ -71,15 +98,21 @@ pub(crate) fn run_withdraw<F: Files + Progress, O: Write>(
         making.entry.names.now.withdrawn.items (string_bytes set.now ∷ []) ⊥ making.entry.folder.now
         (F.held files.old) (F.held files.new) }
 {
-    match withdraw_of(making, slice::from_ref(set), files, out) {
+    let mut sum = SetSum::new();
+    let done = withdraw_of(making, slice::from_ref(set), &mut sum, files, out);
+    if making.explains && matches!(done, Ok(0)) {
+        show_set_sum(&sum, files);
+    }
+    match done {
         Ok(status) => Ok(status),
         Err(refusal) => Err(refusal),
     }
 }
 
-fn withdraw_of<F: Files + Progress, O: Write>(
+fn withdraw_of<F: Files + Progress + Hints, O: Write>(
     making: Making<'_>,
     sets: &[String],
+    sum: &mut SetSum,
     files: &mut F,
     out: &mut O,
 ) -> Result<u8, Refusal>
@@ -105,6 +138,7 @@ fn withdraw_of<F: Files + Progress, O: Write>(
         Ok(noted) => noted,
         Err(fault) => return Err(refuse(sets, &fault, out)),
     };
+    *sum = SetSum::of(&noted, sets.len());
     let origins = SetFiles {
         folders: sets,
         directories: &slices,
@@ -115,7 +149,7 @@ fn withdraw_of<F: Files + Progress, O: Write>(
 
 /// Prints what is noted of these file-sets, and then makes what was planned of them, or prints what would be made.
 /// Answers the status.
-fn write_noted<'a, F: Files + Progress, O: Write>(
+fn write_noted<'a, F: Files + Progress + Hints, O: Write>(
     making: Making<'_>,
     sets: &SetFiles<'_, 'a>,
     noted: &NotedMerge<'a>,
@@ -140,6 +174,7 @@ fn write_noted<'a, F: Files + Progress, O: Write>(
         return Ok(1);
     }
     refuse_noted(making.strict, is_noted(noted))?;
+    show_dates(making.explains, &noted.merged.plan, files);
     if making.dry_run {
         return Ok(tell_counts(Ending::Planned, &noted.merged.plan, out));
     }

@@ -1,6 +1,6 @@
 //! The program's run.
 ghost use Rattle.std.specs.Prelude.{◌≡◌, ◌≤◌, ◌<◌, ◌⊎◌, ◌↔◌, IfErr, IfOk, length, true, false};
-ghost use Rattle.dd_line.specs.Line.{HasBadName, IsCheck, IsReading, LacksSources, OnlyReads};
+ghost use Rattle.dd_line.specs.Line.{HasBadLimit, HasBadName, IsCheck, IsReading, LacksSources, OnlyReads};
 ghost use Rattle.dd_line.specs.Requests.{folder_of, is_dry, links, read_of, verb_of};
 ghost use Rattle.dicomdir.specs.DryRun.{HasDryRun, HasLink, first_path};
 ghost use Rattle.dicomdir.specs.EmptyPaths.{HasEmptyPath, RequestsEmptyPath};
@@ -85,10 +85,12 @@ pub fn run<F: Files + Progress + Hints, O: Write, E: Write>(
     ensures findings { result ≡ 3 → IsCheck (line_of words.items) }
     ensures line { result ≡ 2 → (files.new ≡ files.old) × (out.new ≡ out.old) }
 
-    // The work of a line with a bad name, or without sources, is never done.
-    ensures words { result ≡ 2 → IsTaken words.items
-        → HasBadName (line_of words.items) ⊎ LacksSources (line_of words.items) }
+    // The work of a line with a bad name or limit, or without sources, is never done.
+    ensures words { result ≡ 2 → IsTaken words.items → HasBadName (line_of words.items)
+        ⊎ (HasBadLimit (line_of words.items) ⊎ LacksSources (line_of words.items)) }
     ensures names { result ≡ 0 → IsTaken words.items → ¬ HasBadName (line_of words.items) }
+    ensures limit { IsTaken words.items → HasBadLimit (line_of words.items)
+        → (1 ≤ result) × (files.new ≡ files.old) × (out.new ≡ out.old) }
     ensures sources { IsTaken words.items → LacksSources (line_of words.items)
         → (1 ≤ result) × (files.new ≡ files.old) × (out.new ≡ out.old) }
     ensures empty { IsTaken words.items → HasEmptyPath (line_of words.items)

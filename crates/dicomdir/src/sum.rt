@@ -1,6 +1,10 @@
 //! What became of the sources of an index, for a person.
-ghost use Rattle.std.specs.Prelude.{◌≡◌};
-ghost use Rattle.dicomdir.specs.Sum.{CountsSources};
+ghost use Rattle.std.specs.Prelude.{◌≡◌, List, Ok, length};
+ghost use Rattle.dd_engine.specs.IndexNotes.{NotesIndex};
+ghost use Rattle.dd_engine.specs.Indexing.{Answer};
+ghost use Rattle.dd_engine.specs.declared.choice.Choice.{Choice};
+ghost use Rattle.dd_layout.specs.Limits.{Limits};
+ghost use Rattle.dicomdir.specs.Sum.{AddsUp, CountsSources};
 
 use dd_engine::NotedIndex;
 use dd_files::{Files, Hints};
@@ -28,7 +32,7 @@ const MOST: usize = 5;
 #[derive(Clone, Copy)]
 pub(crate) struct Sum {
     pub(crate) sources: usize,
-    /// The first source of each image of the file-set.
+    /// The images of the file-set, each with its first source.
     pub(crate) kept: usize,
     /// The sources without a version.
     pub(crate) skipped: usize,
@@ -53,9 +57,12 @@ impl Sum {
     }
 
     pub(crate) fn of(noted: &NotedIndex, sources: usize) -> Sum
-        ensures { CountsSources noted.now sources result }
+        ensures counts { CountsSources noted.now sources result }
+        ensures adds { (choice : Choice) (limits : Limits) (answers : List Answer)
+            → length answers ≡ sources → NotesIndex choice limits answers (Ok noted.now)
+            → AddsUp result }
     {
-        let kept = noted.indexed.picks.len();
+        let kept = noted.indexed.plan.versions().len();
         let skipped = noted.indexed.skipped.len();
         let left_out = noted.notes.left_out.len();
         let others = sources.saturating_sub(kept).saturating_sub(skipped);
@@ -119,12 +126,17 @@ fn show_counts<F: Files + Hints>(sum: &Sum, files: &mut F)
         " left out, ",
         repeated.format(sum.repeated),
         " repeated",
-        if sum.kept == 0 {
-            ": the file-set has no image"
-        } else {
-            ""
-        },
+        word_of_none(sum.kept),
     ]);
+}
+
+/// Says that nothing was kept, where that is so.
+pub(crate) fn word_of_none(kept: usize) -> &'static str {
+    if kept == 0 {
+        ": the file-set has no image"
+    } else {
+        ""
+    }
 }
 
 fn show_first_steps<F: Files + Hints>(rows: &[bool; ROWS], files: &mut F)

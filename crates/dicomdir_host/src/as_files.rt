@@ -4,6 +4,7 @@ ghost use Rattle.std.specs.Prelude.{ℕ, None, refl};
 use crate::again::{Links, is_folder};
 use crate::counted::{Counted, write_again};
 use crate::host_files::HostFiles;
+use crate::noted::Noted;
 use crate::opening::Input;
 use crate::system::System;
 use dd_elem::Write;
@@ -30,8 +31,8 @@ impl<R: System> Write for HostFiles<'_, R> {
     }
 }
 
-impl<R: System> Files for HostFiles<'_, R> {
-    type In = Counted<Input<R::File, R::Stdin>>;
+impl<'a, R: System> Files for HostFiles<'a, R> {
+    type In = Counted<Noted<'a, Input<R::File, R::Stdin>>>;
 
     ghost refusals = { λ s. s.refusals };
 
@@ -41,10 +42,7 @@ impl<R: System> Files for HostFiles<'_, R> {
         let last = self.last;
         if self.refusals < u64::MAX {
             if let Ok(input) = last.note(self.open(path)) {
-                if input.is_folder() {
-                    last.remember_folder();
-                }
-                return Ok(Counted::new(input));
+                return Ok(Counted::new(Noted::new(input, last)));
             }
         }
         self.refusals = self.refusals.saturating_add(1);
@@ -55,7 +53,7 @@ impl<R: System> Files for HostFiles<'_, R> {
         let last = self.last;
         if self.refusals < u64::MAX {
             if let Ok(input) = last.note(self.open_member(set, path)) {
-                return Ok(Counted::new(input));
+                return Ok(Counted::new(Noted::new(input, last)));
             }
         }
         self.refusals = self.refusals.saturating_add(1);
@@ -66,7 +64,7 @@ impl<R: System> Files for HostFiles<'_, R> {
         let last = self.last;
         if self.refusals < u64::MAX {
             if let Ok(input) = last.note(self.open_names(path)) {
-                return Ok(Counted::new(input));
+                return Ok(Counted::new(Noted::new(input, last)));
             }
         }
         self.refusals = self.refusals.saturating_add(1);
@@ -94,7 +92,6 @@ impl<R: System> Files for HostFiles<'_, R> {
     }
 
     fn link(&mut self, set: &str, from: &str, path: &str) -> Result<(), LinkFault> {
-        self.last.forget();
         let mut fault = LinkFault::Absent;
         if self.refusals < u64::MAX {
             match self.add_link(set, from, path) {

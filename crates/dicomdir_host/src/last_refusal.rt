@@ -4,10 +4,7 @@ use dd_files::Cause;
 use std::cell::Cell;
 use std::io;
 
-// The error number of a read of a folder.
-const EISDIR: i32 = 21;
-
-/// Remembers why the system refused the last call. Its contract says nothing of that.
+/// Remembers why the system refused the last call, or a read after it. Its contract says nothing of that.
 #[derive(Drop)]
 pub struct LastRefusal {
     // The error number of the system, or 0.
@@ -27,16 +24,7 @@ impl LastRefusal {
         answer
     }
 
-    pub(crate) fn forget(&self) {
-        self.code.set(0);
-    }
-
-    /// Remembers what the system says of reads of a folder.
-    pub(crate) fn remember_folder(&self) {
-        self.code.set(EISDIR);
-    }
-
-    fn remember<T>(&self, answer: &io::Result<T>) {
+    pub(crate) fn remember<T>(&self, answer: &io::Result<T>) {
         let code = match answer {
             Ok(_) => None,
             Err(error) => error.raw_os_error(),

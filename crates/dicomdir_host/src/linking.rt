@@ -94,18 +94,19 @@ impl<'a, R: System> HostFiles<'a, R> {
           progress = self.new.progress;
         } }
     {
-        let Ok(seen) = self.plain_member(set, from) else {
+        let last = self.last;
+        let Ok(seen) = last.note(self.plain_member(set, from)) else {
             return Err(LinkFault::Absent);
         };
         let Ok((folder, name)) = self.room_for(path) else {
             return Err(LinkFault::Refused);
         };
-        match link_file(self.rt, self.members.place(), path) {
+        match last.note(link_file(self.rt, self.members.place(), path)) {
             Ok(()) => {}
             Err(error) if error.kind() == ErrorKind::AlreadyExists => return Err(LinkFault::Taken),
             Err(_) => return Err(LinkFault::Refused),
         }
-        match self.keep_linked(folder, name, &seen) {
+        match last.note(self.keep_linked(folder, name, &seen)) {
             Ok(()) => Ok(()),
             Err(_) => Err(LinkFault::Absent),
         }

@@ -10,16 +10,9 @@ use std::os::unix::fs::MetadataExt;
 pub enum Input<F: Read + Drop, S: Read + Drop> {
     /// A plain file whose size is said to be 0.
     Empty,
+    /// A plain file, or a folder, whose reads are refused.
     File(F),
-    /// Its reads are refused.
-    Folder(F),
     Standard(S),
-}
-
-impl<F: Read + Drop, S: Read + Drop> Input<F, S> {
-    pub(crate) fn is_folder(&self) -> bool {
-        matches!(self, Input::Folder(_))
-    }
 }
 
 impl<F: Read + Drop, S: Read + Drop> Read for Input<F, S> {
@@ -28,7 +21,7 @@ impl<F: Read + Drop, S: Read + Drop> Read for Input<F, S> {
     {
         match self {
             Input::Empty => Ok(0),
-            Input::File(file) | Input::Folder(file) => file.read(buf),
+            Input::File(file) => file.read(buf),
             Input::Standard(input) => input.read(buf),
         }
     }
@@ -48,10 +41,7 @@ pub(crate) fn open_seen<R: System>(
         return Err(io::Error::other("no file and no folder"));
     }
     let (file, opened) = open_same(rt, path, seen)?;
-    if opened.is_dir() {
-        return Ok(Input::Folder(file));
-    }
-    if opened.len() == 0 {
+    if opened.is_file() && opened.len() == 0 {
         return Ok(Input::Empty);
     }
     Ok(Input::File(file))

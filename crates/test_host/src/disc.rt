@@ -244,7 +244,7 @@ impl Disc {
     pub(crate) fn pass(&mut self, call: Call) -> io::Result<()> {
         if self.failing == Some(call) {
             self.failing = None;
-            return Err(io::Error::from(self.kind));
+            return Err(error_of(self.kind));
         }
         Ok(())
     }
@@ -294,11 +294,21 @@ impl Disc {
             return Err(io::Error::from(ErrorKind::NotFound));
         };
         if entry.kind == Kind::Folder {
-            return Err(io::Error::from(ErrorKind::IsADirectory));
+            return Err(io::Error::from_raw_os_error(21));
         }
         let mut rest = entry.bytes.get(from..).unwrap_or(&[]);
         let wanted = buf.len().min(STEP);
         rest.read(&mut buf[..wanted])
+    }
+}
+
+// As Linux has it: EIO, EACCES and EXDEV.
+fn error_of(kind: ErrorKind) -> io::Error {
+    match kind {
+        ErrorKind::Other => io::Error::from_raw_os_error(5),
+        ErrorKind::PermissionDenied => io::Error::from_raw_os_error(13),
+        ErrorKind::CrossesDevices => io::Error::from_raw_os_error(18),
+        kind => io::Error::from(kind),
     }
 }
 

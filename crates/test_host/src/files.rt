@@ -30,7 +30,8 @@ dir d, pause look, folder d > . . + > none
 file a, names a > . old > old
 silent a, names a > . old > old
 file a, limit 0, read a, cause, limit 9, read a, cause, fail read, read a, cause > \
-. . - Too many open files . old  . !  > old
+. . - Too many open files . old  . ! Input/output error > old
+file a, bar read, read a, cause, read a, cause, read b, cause > . . ! Permission denied old  -  > old
 dir d, file a, is d, is a, is b > . . yes no no > old
 dir d, read d, cause, read e, cause > . ! Is a directory -  > none
 pipe a, names a > .  >

@@ -64,6 +64,8 @@ dir o, link d, file d/A, second d: d/A at o/A > . . . +
 file d/A, second d: d/A at o/A, dir o, second d: d/A at o/A > . -refused . +
 dir o, file d/A, fail link, second d: d/A at o/A, second d: d/A at o/A > . . . -refused +
 dir o, file d/A, part link, second d: d/A at o/A, read o/A > . . . -refused -
+dir o, file d/A, bar link, second d: d/A at o/A, cause > . . . -refused Permission denied
+dir o, file d/A, bar open, second d: d/A at o/A, cause > . . . -absent Permission denied
 dir o, file d/A, pause link, second d: d/A at o/A > . . . +
 dir o, file d/A, pause made, second d: d/A at o/A, second d: d/A at o/A > . . . + -taken
 dir o, file d/A, dir o/A, pause link, second d: d/A at o/A > . . . . -absent

@@ -26,6 +26,11 @@ dicomdir index --max-bytes 4294967295 set image.dcm > Index - - 4294967295 set i
 dicomdir index --max-bytes 0007 set image.dcm > Index - - 7 set image.dcm
 dicomdir index --max-bytes +876 set image.dcm > Index - - 876 set image.dcm
 dicomdir index --max-bytes=-0 set image.dcm > Index - - 0 set image.dcm
+dicomdir index --max-bytes 650M set image.dcm > Index - - 681574400 set image.dcm
+dicomdir merge --max-bytes=3G set a > Merge - - 3221225472 set a
+dicomdir withdraw --max-bytes 4194303K out set 1.2 > Withdraw - - 4294966272 out set without 1.2
+dicomdir index --max-bytes +007K set image.dcm > Index - - 7168 set image.dcm
+dicomdir index --max-bytes=-0G set image.dcm > Index - - 0 set image.dcm
 dicomdir index --strict set image.dcm > Index - - 4294967295 set image.dcm with strict
 dicomdir index set b.dcm --strict a.dcm --max-bytes 7 > Index - - 7 set b.dcm a.dcm with strict
 dicomdir index --strict --id A -- set --strict > Index A - 4294967295 set --strict with strict
@@ -75,6 +80,19 @@ dicomdir index --max-bytes=-1 set image.dcm > 2 true
 dicomdir index --max-bytes -1 set image.dcm > 2 true
 dicomdir index --max-bytes '' set image.dcm > 2 true
 dicomdir index --max-bytes 1e3 set image.dcm > 2 true
+dicomdir index --max-bytes 4G set image.dcm > 2 true
+dicomdir merge --max-bytes 4096M set a > 2 true
+dicomdir withdraw --max-bytes 4194304K out set 1.2 > 2 true
+dicomdir index --max-bytes 18446744073709551617K set image.dcm > 2 true
+dicomdir index --max-bytes K set image.dcm > 2 true
+dicomdir index --max-bytes 1KM set image.dcm > 2 true
+dicomdir index --max-bytes 1KB set image.dcm > 2 true
+dicomdir index --max-bytes 1m set image.dcm > 2 true
+dicomdir index --max-bytes 1.5G set image.dcm > 2 true
+dicomdir index --max-bytes '1 K' set image.dcm > 2 true
+dicomdir index --max-bytes=-1K set image.dcm > 2 true
+dicomdir index --max-bytes 1T set image.dcm > 2 true
+dicomdir index --max-bytes 4G set > 2 true
 dicomdir index --max-bytes 12 --max-bytes 13 set image.dcm > 2 true
 dicomdir index --uid 2.25.1 --uid 2.25.1 set image.dcm > 2 true
 dicomdir index --id DISC1 --id DISC2 set image.dcm > 2 true

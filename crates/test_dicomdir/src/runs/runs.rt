@@ -126,7 +126,7 @@ NOTE -: Patient ID P1 has 3 names: DOE^J?RG, DOE^JUDY, DOE^JOHN|] [FAULT -: 98 S
 - - dicomdir index full --files0-from nowhere > 1 [] [FAULT full/DICOMDIR: 94 Create|] kept
 - - dicomdir index out '' --files0-from nowhere > 1 [] [FAULT : 92 Absent|] kept
 - - dicomdir index out --files0-from gap --uid 2.25.x > 2 [] [FAULT -: 71 BadUid|] kept
-- - dicomdir --version > 0 [dicomdir 1.0.0|] [] kept
+- - dicomdir --version > 0 [dicomdir 1.1.0, form 1|] [] kept
 - 6 dicomdir index out none.dcm --uid 2.25.0 > 1 [] [FAULT ] kept
 - 0 dicomdir index out none.dcm --uid 2.25.x > 2 [] [] kept";
 

@@ -3,7 +3,7 @@ use Rattle.std.proofs.Common.{ap, map, refl, ◌∙◌}
 use Rattle.std.proofs.lemmas.List.{take_all}
 use Rattle.clap.specs.Words.{found_of}
 use Rattle.clap.proofs.WalkLemmas.{raw_values-rows}
-use Rattle.dd_line.proofs.LineLimit.{values_or_none}
+use Rattle.dd_line.proofs.LineValues.{values_or_none}
 use Rattle.dd_line.proofs.given.values_of.Goals as goal
 
 pub returns : goal.returns

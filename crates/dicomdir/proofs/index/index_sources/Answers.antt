@@ -14,6 +14,7 @@ returns-clause-made g c = λ makes.
     (rw c.begin_step.ensures.kept at c.in-Ok.ensures.answers)
     (λ done. rw (
       c.deref-2.ensures.value,
+      c.show_dates.ensures.kept,
       c.hide_line.ensures.kept,
       c.index_files-answer.ensures.kept,
       c.begin_step.ensures.kept,

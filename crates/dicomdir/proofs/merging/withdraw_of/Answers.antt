@@ -1,5 +1,5 @@
 -- What was made is of the answer of the engine, whose one set is the directory in the folder. Images get no hard links.
-use Rattle.std.proofs.Common.{◌≡◌, ◌∙◌, ap, length, map}
+use Rattle.std.proofs.Common.{◌∙◌, ap, length, map}
 use Rattle.dd_line.specs.Line.{words_of}
 use Rattle.dicomdir.specs.Made.{IsMemberPath}
 use Rattle.dicomdir.proofs.EngineMade.{done_merges, only_one}

@@ -4,4 +4,4 @@ use Rattle.dicomdir.proofs.merging.write_noted.Goals as goal
 
 pub returns-clause-made : goal.returns-clause-made
 returns-clause-made g c = λ makes.
-    once_done c.make_file_set.result _ (rw c.deref.ensures.value at c.make_file_set.ensures.made)
+    once_done c.make_file_set.result _ (rw (c.deref.ensures.value, c.show_dates.ensures.kept) at c.make_file_set.ensures.made)

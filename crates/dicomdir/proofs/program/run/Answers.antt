@@ -1,6 +1,6 @@
 use Rattle.std.proofs.Common.{arith, inl, subst, sym}
 use Rattle.std.specs.Prelude.{◌⊎◌}
-use Rattle.dd_line.specs.Line.{HasBadName, IsCheck, IsReading, LacksSources, OnlyReads}
+use Rattle.dd_line.specs.Line.{HasBadLimit, HasBadName, IsCheck, IsReading, LacksSources, OnlyReads}
 use Rattle.dd_line.specs.Requests.{verb_of}
 use Rattle.dd_line.proofs.RequestLemmas.{given_bad, requested_bad, requested_check, requested_reads}
 use Rattle.dicomdir.specs.DryRun.{HasDryRun, HasLink, first_path}
@@ -30,9 +30,14 @@ returns-in-Ok-clause-names g c = λ is _ bad.
     c.run_request.ensures.status.good is (given_bad c.in-Ok.request _ c.in-Ok.ensures.request
     (subst (λ words. HasBadName (line_of words)) (sym c.as_slice.ensures.value) bad))
 
+pub returns-in-Ok-clause-limit : goal.returns-in-Ok-clause-limit
+returns-in-Ok-clause-limit g c = λ _ wrong.
+    absurd (c.in-Ok.ensures.kinds.1
+    (subst (λ words. HasBadLimit (line_of words)) (sym c.as_slice.ensures.value) wrong))
+
 pub returns-in-Ok-clause-sources : goal.returns-in-Ok-clause-sources
 returns-in-Ok-clause-sources g c = λ _ lacks.
-    absurd (c.in-Ok.ensures.kinds.1
+    absurd (c.in-Ok.ensures.kinds.2
     (subst (λ words. LacksSources (line_of words)) (sym c.as_slice.ensures.value) lacks))
 
 pub returns-in-Ok-clause-empty : goal.returns-in-Ok-clause-empty
@@ -68,31 +73,37 @@ returns-in-Ok-clause-made g c = λ is _ writes works.
 pub returns-clause-words : goal.returns-clause-words
 returns-clause-words g c = λ is taken.
     let still = subst (λ words. IsTaken words) (sym c.as_slice.ensures.value) taken in
-    subst (λ words. HasBadName (line_of words) ⊎ LacksSources (line_of words)) c.as_slice.ensures.value
-    (taken_lacks c.in-Err.fault c.refuse_line.result _ _ (c.in-Err.ensures.passes still)
+    subst (λ words. HasBadName (line_of words) ⊎ (HasBadLimit (line_of words) ⊎ LacksSources (line_of words))) c.as_slice.ensures.value
+    (taken_lacks c.in-Err.fault c.refuse_line.result _ _ _ (c.in-Err.ensures.passes still)
     (λ memory. (c.refuse_line.ensures.memory memory).0) is)
 
 pub returns-clause-names : goal.returns-clause-names
 returns-clause-names g c = λ is taken _.
     let still = subst (λ words. IsTaken words) (sym c.as_slice.ensures.value) taken in
-    let amiss = c.refuse_line.ensures.mistake (taken_mistake c.in-Err.fault _ (c.in-Err.ensures.passes still)) in
+    let amiss = c.refuse_line.ensures.mistake (taken_mistake c.in-Err.fault _ _ (c.in-Err.ensures.passes still)) in
     omega (arith, is, amiss.0)
+
+pub returns-clause-limit : goal.returns-clause-limit
+returns-clause-limit g c = λ taken _.
+    let still = subst (λ words. IsTaken words) (sym c.as_slice.ensures.value) taken in
+    let amiss = c.refuse_line.ensures.mistake (taken_mistake c.in-Err.fault _ _ (c.in-Err.ensures.passes still)) in
+    (amiss.0, cc, amiss.1)
 
 pub returns-clause-sources : goal.returns-clause-sources
 returns-clause-sources g c = λ taken _.
     let still = subst (λ words. IsTaken words) (sym c.as_slice.ensures.value) taken in
-    let amiss = c.refuse_line.ensures.mistake (taken_mistake c.in-Err.fault _ (c.in-Err.ensures.passes still)) in
+    let amiss = c.refuse_line.ensures.mistake (taken_mistake c.in-Err.fault _ _ (c.in-Err.ensures.passes still)) in
     (amiss.0, cc, amiss.1)
 
 pub returns-clause-empty : goal.returns-clause-empty
 returns-clause-empty g c = λ taken _.
     let still = subst (λ words. IsTaken words) (sym c.as_slice.ensures.value) taken in
-    let amiss = c.refuse_line.ensures.mistake (taken_mistake c.in-Err.fault _ (c.in-Err.ensures.passes still)) in
+    let amiss = c.refuse_line.ensures.mistake (taken_mistake c.in-Err.fault _ _ (c.in-Err.ensures.passes still)) in
     (amiss.0, cc, amiss.1)
 
 pub returns-clause-made : goal.returns-clause-made
 returns-clause-made g c = λ is taken _ _.
     let still = subst (λ words. IsTaken words) (sym c.as_slice.ensures.value) taken in
-    let amiss = c.refuse_line.ensures.mistake (taken_mistake c.in-Err.fault _ (c.in-Err.ensures.passes still)) in
+    let amiss = c.refuse_line.ensures.mistake (taken_mistake c.in-Err.fault _ _ (c.in-Err.ensures.passes still)) in
     absurd {A = MakesSome (HasLink (line_of c.args.words.items)) (first_path (line_of c.args.words.items))
     (g.F.Files.held c.args.files.now) (g.F.Files.held c.args.files.now)} (omega (arith, is, amiss.0))

@@ -1,4 +1,4 @@
-use Rattle.std.proofs.Common.{◌≡◌, ◌∙◌, ◌+◌, [], ◌∷◌, ℕ, List, Option, ap, arith, get_or, length, map, string_bytes, subst, sym}
+use Rattle.std.proofs.Common.{◌≡◌, ◌∙◌, ◌+◌, [], ℕ, List, Option, ap, arith, get_or, length, map, string_bytes, subst, sym}
 use Rattle.std.proofs.lemmas.List.{get_or-map, length-map, length_push, map_push}
 use Rattle.dd_files.specs.Files.{Held}
 use Rattle.dd_line.specs.Line.{words_of}

@@ -1,14 +1,15 @@
 -- The folder of the new name waits.
-use Rattle.std.proofs.Common.{◌≡◌, ◌∙◌, ◌∷◌, ◌++◌, List, [], String, ap, refl}
+use Rattle.std.proofs.Common.{◌≡◌, ◌∙◌, ◌∷◌, ◌++◌, List, [], String, ap, refl, sym}
 use Rattle.std.specs.declared.alloc.Global.{Global}
 use Rattle.dicomdir_host.proofs.host_files.HostFiles.add_link.Goals as goal
 
-pub returns-in-Ok-keep_linked-clause-named : goal.returns-in-Ok-keep_linked-clause-named
-returns-in-Ok-keep_linked-clause-named g c = λ _.
+pub returns-in-Ok-note-2-clause-named : goal.returns-in-Ok-note-2-clause-named
+returns-in-Ok-note-2-clause-named g c = λ _.
     let folder = c.in-Ok-room_for.folder in
     let before : c.room_for.new.self.unstored.folders.items ≡ c.args.self.now.unstored.folders.items =
-    c.in-Ok-room_for.ensures.folders ∙ ap (λ files. files.unstored.folders.items) c.plain_member.ensures.same in (
+    c.in-Ok-room_for.ensures.folders ∙ ap (λ files. files.unstored.folders.items) c.plain_member.ensures.same in
+    let named = rw (sym c.note-3.ensures ∙ c.in-Ok-note-2.is) at c.keep_linked.ensures.named in (
       folder,
       c.in-Ok-room_for.ensures.folder,
-      c.in-Ok-keep_linked.ensures.named refl ∙ ap (λ (folders : List (String Global)). folders ++ folder ∷ []) before,
+      named refl ∙ ap (λ (folders : List (String Global)). folders ++ folder ∷ []) before,
     )

@@ -2,7 +2,7 @@
 use Rattle.std.proofs.Common.{◌≡◌, [], map, true}
 use Rattle.dd_line.specs.Line.{words_of}
 use Rattle.dicomdir.proofs.EngineMade.{done_merges}
-use Rattle.dicomdir.proofs.merging.run_merge.Goals as goal
+use Rattle.dicomdir.proofs.merging.merge_sets.Goals as goal
 
 pub returns-clause-made : goal.returns-clause-made
 returns-clause-made g c = λ makes.

@@ -1,0 +1,11 @@
+-- Each source is counted once.
+use Rattle.std.proofs.Common.{rules}
+use Rattle.dicomdir.proofs.AddingUp.{index_adds_up}
+use Rattle.dicomdir.proofs.sum.Sum.of.Goals as goal
+
+pub returns-clause-counts : goal.returns-clause-counts
+returns-clause-counts c = search rules
+
+pub returns-clause-adds : goal.returns-clause-adds
+returns-clause-adds c = λ choice limits answers all notes.
+    index_adds_up choice limits answers c.args.noted.now c.args.sources _ all notes (returns-clause-counts c)
