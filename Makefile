@@ -1,27 +1,38 @@
-# Tests the prebuilt program; installs it, its scripts, their man pages and completions, and the documents; and makes a
-# Debian package of them.
-# PREFIX and DESTDIR may hold spaces.
+# Tests the prebuilt program; installs it, its scripts, their man pages and completions, the C library, the Python
+# package and the documents; and makes Debian packages of them, and a wheel.
+# PREFIX, LIBDIR, PYTHONDIR and DESTDIR may hold spaces.
 SHELL := /bin/sh
 PREFIX ?= /usr/local
 DESTDIR ?=
-export PREFIX DESTDIR
+LIBDIR ?= $(PREFIX)/lib
+PYTHONDIR ?= $(PREFIX)/lib/python3/dist-packages
+export PREFIX DESTDIR LIBDIR PYTHONDIR
 
 program := prebuilt/x86_64-linux-gnu/dicomdir
+library := prebuilt/x86_64-linux-gnu/libdicomdir.so.1
+headers := dicomdir.h dicomdir_table.h
 # They do the work of 'dicomdir index'. Each has a man page and completions by its name.
 scripts := dicomdir-parallel dicomdir-slurm
 version := $(shell packaging/version)
 share := "$$DESTDIR$$PREFIX/share"
 bin := "$$DESTDIR$$PREFIX/bin"
 ours := $(share)/doc/dicomdir
+lib := "$$DESTDIR$$LIBDIR"
+include := "$$DESTDIR$$PREFIX/include"
+python := "$$DESTDIR$$PYTHONDIR/dicomdir"
+# A value as the second half of a command of sed.
+quoted = $$(printf '%s' "$$$(1)" | sed 's/[&|\\]/\\&/g')
 
 help:
 	@echo 'dicomdir $(version), a program for Linux on x86-64 with glibc 2.34 or newer'
 	@echo
 	@echo '  make check      tests it in a few seconds, without network and root'
-	@echo '  make install    copies it, its scripts, man pages, completions and documents to PREFIX, /usr/local'
-	@echo '                  by default; where DESTDIR is given, to that folder in place of /'
-	@echo '  make uninstall  removes these files again, from the same PREFIX and DESTDIR'
-	@echo '  make deb        makes a Debian package of them, in packaging/out'
+	@echo '  make install    copies it, its scripts, man pages, completions and documents, the C library, its headers'
+	@echo '                  and the Python package to PREFIX, /usr/local by default; where DESTDIR is given, to that'
+	@echo '                  folder in place of /. LIBDIR is PREFIX/lib, PYTHONDIR PREFIX/lib/python3/dist-packages'
+	@echo '  make uninstall  removes these files again, from the same PREFIX, LIBDIR, PYTHONDIR and DESTDIR'
+	@echo '  make deb        makes Debian packages of them, in packaging/out'
+	@echo '  make wheel      makes a wheel of the Python package and the C library, in packaging/out'
 	@echo '  make quick      runs tests without proof, and the commands of README.md (CONTRIBUTING.md)'
 	@echo '  make docs       makes what pages, man pages and completions have of the sources and the help'
 	@echo
@@ -30,6 +41,7 @@ help:
 # The bytes are those that were built.
 install:
 	@sed -n 's|^program \(.*\)|\1  $(program)|p' $(program).made-from | sha256sum --check --quiet -
+	@sed -n 's|^library \(.*\)|\1  $(library)|p' $(library).made-from | sha256sum --check --quiet -
 	install -D -m 755 $(program) $(bin)/dicomdir
 	install -m 755 $(scripts:%=scripts/%) $(bin)
 	install -D -m 644 -t $(share)/dicomdir scripts/functions scripts/lines
@@ -45,6 +57,14 @@ install:
 	install -d $(ours)/docs $(ours)/docs/images
 	install -m 644 docs/*.md $(ours)/docs
 	install -m 644 docs/images/*.svg $(ours)/docs/images
+	install -D -m 644 -t $(ours)/examples bindings/c/tree.c bindings/python/tree.py
+	install -D -m 644 -t $(lib) $(library)
+	ln -sf libdicomdir.so.1 $(lib)/libdicomdir.so
+	install -D -m 644 -t $(include) $(headers:%=bindings/c/%)
+	install -d $(lib)/pkgconfig
+	sed "s|@PREFIX@|$(call quoted,PREFIX)|; s|@LIBDIR@|$(call quoted,LIBDIR)|; s|@VERSION@|$(version)|" \
+		bindings/c/dicomdir.pc.in | install -m 644 /dev/stdin $(lib)/pkgconfig/dicomdir.pc
+	install -D -m 644 -t $(python) bindings/python/dicomdir/*.py bindings/python/dicomdir/py.typed
 
 # Folders that other programs may have too are left.
 uninstall:
@@ -54,7 +74,12 @@ uninstall:
 	rm -f $(share)/zsh/site-functions/_dicomdir $(share)/dicomdir/functions $(share)/dicomdir/lines \
 		$(share)/dicomdir/slurm-job
 	rm -f $(ours)/README.md $(ours)/CHANGELOG.md $(ours)/dicomdir.made-from $(ours)/docs/*.md $(ours)/docs/images/*.svg
-	for folder in $(ours)/docs/images $(ours)/docs $(ours) $(share)/dicomdir; do \
+	rm -f $(ours)/examples/tree.c $(ours)/examples/tree.py
+	rm -f $(lib)/libdicomdir.so.1 $(lib)/libdicomdir.so $(lib)/pkgconfig/dicomdir.pc
+	for name in $(headers); do rm -f $(include)/$$name || exit 1; done
+	rm -rf $(python)/__pycache__
+	rm -f $(python)/*.py $(python)/py.typed
+	for folder in $(ours)/docs/images $(ours)/docs $(ours)/examples $(ours) $(share)/dicomdir $(python); do \
 		if [ -d "$$folder" ]; then rmdir --ignore-fail-on-non-empty "$$folder"; fi; done
 
 check:
@@ -66,7 +91,10 @@ quick:
 deb:
 	packaging/deb
 
+wheel:
+	@bindings/python/wheel packaging/out
+
 docs:
 	docs/generate --write
 
-.PHONY: help check quick install uninstall deb docs
+.PHONY: help check quick install uninstall deb wheel docs

@@ -1,0 +1,266 @@
+"""New file-sets: their directories are made by the library, and their files are copied here."""
+import os
+from hashlib import sha256
+from typing import Callable, Iterable, List, NamedTuple, Optional, Tuple, Union
+
+from . import _bytes
+from ._bytes import DIGEST
+from ._faults import Fault
+from ._opening import open_below, open_source, parts_of, pieces, read_source, spellings
+from ._records import FileSet, Record
+
+Path = Union[str, "os.PathLike[str]"]
+_FOLDER = os.O_RDONLY | os.O_DIRECTORY | os.O_CLOEXEC
+_NEW = os.O_WRONLY | os.O_CREAT | os.O_EXCL | os.O_NOFOLLOW | os.O_CLOEXEC
+
+
+class Source(NamedTuple):
+    """A file that is copied: its path as it is shown, and what opens it."""
+    path: str
+    open: Callable[[], int]
+
+
+class Built:
+    """A file-set that is not written yet.
+
+    `directory` has the bytes of its DICOMDIR, `images` a (source, record) for each image, and `skipped` a
+    (source, fault) for each file that `build` left out.
+    """
+
+    def __init__(self, made: _bytes.Made, sources: List[Source], skipped: List[Tuple[str, Fault]]) -> None:
+        self.directory, self.skipped, self._sources = made.directory, skipped, sources
+        records = list(FileSet(made.directory))
+        if len(records) != len(sources):
+            raise SystemError("libdicomdir picked other files than its directory names")
+        self.images: List[Tuple[str, Record]] = [(source.path, record) for source, record in zip(sources, records)]
+
+    def write(self, folder: Path) -> FileSet:
+        """Copies the images to the folder, which is made where it is not there, and then writes its DICOMDIR.
+
+        Only new files are opened, and no link is followed below the folder. Each copy's SHA-256 is compared with its
+        record. Copies and folders are stored before the DICOMDIR is begun, and it is stored at the end. Raises Fault:
+        94 Create where the folder has a DICOMDIR or the name of a file is taken, 95 Folder, 96 Unsent, 97 Changed
+        where a source is no longer what it was, and 92 Absent or 93 Unread of a source. What was copied before stays.
+        """
+        top = os.fspath(folder)
+        _make_folder(top)
+        _refuse_taken(top)
+        at = _open_folder(top)
+        try:
+            digests = self._copy_all(top, at)
+            for (path, record), found in zip(self.images, _changed(self.directory, self.images, digests)):
+                if found:
+                    raise Fault(97, path=path)
+            _write_new(at, "DICOMDIR", os.path.join(top, "DICOMDIR"), self.directory)
+            _store(at, top)
+        finally:
+            os.close(at)
+        return FileSet(self.directory, top)
+
+    def _copy_all(self, top: str, at: int) -> List[bytes]:
+        """The digest of each copy. Images come in the order of their folders, each of which is stored as it is left."""
+        digests, opened = [], _Folders(top, at)
+        try:
+            for source, (_, record) in zip(self._sources, self.images):
+                parts = parts_of(record.raw("ReferencedFileID")) or []
+                below = opened.enter(parts[:-1])
+                digests.append(_copy(source, below, parts[-1], os.path.join(top, *parts)))
+            opened.enter([])
+            _store(at, top)
+        finally:
+            opened.leave_all()
+        return digests
+
+
+class _Folders:
+    """The folders below the top that are open: a path of them."""
+
+    def __init__(self, top: str, at: int) -> None:
+        self._top, self._at = top, at
+        self._open: List[Tuple[str, int]] = []
+
+    def enter(self, names: List[str]) -> int:
+        """A descriptor of the folder at these names, which is made where it is not there."""
+        shared = 0
+        while shared < min(len(names), len(self._open)) and self._open[shared][0] == names[shared]:
+            shared += 1
+        while len(self._open) > shared:
+            self._leave()
+        for name in names[shared:]:
+            path = self._path(name)
+            above = self._open[-1][1] if self._open else self._at
+            try:
+                try:
+                    os.mkdir(name, dir_fd=above)
+                except FileExistsError:
+                    pass
+                opened = os.open(name, _FOLDER | os.O_NOFOLLOW, dir_fd=above)
+            except OSError as error:
+                raise Fault(95, path=path) from error
+            self._open.append((name, opened))
+        return self._open[-1][1] if self._open else self._at
+
+    def _path(self, *more: str) -> str:
+        return os.path.join(self._top, *(name for name, _ in self._open), *more)
+
+    def _leave(self) -> None:
+        path = self._path()
+        _, opened = self._open.pop()
+        try:
+            _store(opened, path)
+        finally:
+            os.close(opened)
+
+    def leave_all(self) -> None:
+        """Closes all that is open, where the work has failed."""
+        while self._open:
+            os.close(self._open.pop()[1])
+
+
+def _make_folder(path: str) -> None:
+    """Makes a folder and those above it that are not there, and stores their names: 95 Folder."""
+    if os.path.isdir(path):
+        return
+    above = os.path.dirname(path.rstrip("/"))
+    try:
+        if above and not os.path.isdir(above):
+            _make_folder(above)
+        os.mkdir(path)
+        below = os.open(above or ".", _FOLDER)
+    except OSError as error:
+        raise Fault(95, path=path) from error
+    try:
+        _store(below, above or ".")
+    finally:
+        os.close(below)
+
+
+def _open_folder(path: str) -> int:
+    try:
+        return os.open(path, _FOLDER)
+    except OSError as error:
+        raise Fault(95, path=path) from error
+
+
+def _refuse_taken(folder: str) -> None:
+    for name in spellings("DICOMDIR"):
+        if os.path.lexists(os.path.join(folder, name)):
+            raise Fault(94, path=os.path.join(folder, "DICOMDIR"))
+
+
+def _store(opened: int, path: str) -> None:
+    try:
+        os.fsync(opened)
+    except OSError as error:
+        raise Fault(96, path=path) from error
+
+
+def _create(below: int, name: str, path: str) -> int:
+    try:
+        return os.open(name, _NEW, 0o666, dir_fd=below)
+    except OSError as error:
+        raise Fault(94, path=path) from error
+
+
+def _send(opened: int, data: bytes, path: str) -> None:
+    view = memoryview(data)
+    try:
+        while view:
+            view = view[os.write(opened, view):]
+    except OSError as error:
+        raise Fault(96, path=path) from error
+
+
+def _write_new(below: int, name: str, path: str, data: bytes) -> None:
+    opened = _create(below, name, path)
+    try:
+        _send(opened, data, path)
+        _store(opened, path)
+    finally:
+        os.close(opened)
+
+
+def _copy(source: Source, below: int, name: str, path: str) -> bytes:
+    """The SHA-256 of the bytes that were copied."""
+    try:
+        old = source.open()
+    except (OSError, ValueError) as error:
+        raise Fault(92, path=source.path) from error
+    try:
+        new = _create(below, name, path)
+    except Fault:
+        os.close(old)
+        raise
+    digest = sha256()
+    try:
+        for piece in pieces(old):
+            digest.update(piece)
+            _send(new, piece, path)
+        _store(new, path)
+    except OSError as error:
+        raise Fault(93, path=source.path) from error
+    finally:
+        os.close(new)
+    return digest.digest()
+
+
+def _changed(directory: bytes, images: List[Tuple[str, Record]], digests: List[bytes]) -> List[bool]:
+    """Whether each copy is another file than its record says, by the library."""
+    files = [(record.row, DIGEST, digest) for (_, record), digest in zip(images, digests)]
+    return [found.kind != 0 for found in (_bytes.find_in_files(directory, files, False, True) if files else [])]
+
+
+def _opener(path: str) -> Callable[[], int]:
+    return lambda: open_source(path)
+
+
+def build(paths: Iterable[Path], set_id: str, uid: str) -> Built:
+    """What `dicomdir index` makes of image files; those that it would skip are skipped. Raises Fault: 92 Absent and
+    93 Unread of a path, 41 to 43 where the images have no directory, 71 and 72 of `uid` and `set_id`."""
+    parts: List[bytes] = []
+    kept: List[Source] = []
+    skipped: List[Tuple[str, Fault]] = []
+    for path in (os.fspath(one) for one in paths):
+        data = read_source(path)
+        try:
+            parts.append(_bytes.of_image(data))
+            kept.append(Source(path, _opener(path)))
+        except Fault as fault:
+            if not 31 <= fault.status <= 39:
+                raise fault.with_path(path) from None
+            skipped.append((path, fault))
+    made = _bytes.merge(parts, set_id, uid)
+    return Built(made, [kept[number] for number, _ in made.picks], skipped)
+
+
+def _member(folder: Optional[str], file_id: str) -> Source:
+    parts = file_id.split("\\")
+
+    def opened() -> int:
+        if folder is None:
+            raise FileNotFoundError("the file-set was read from bytes")
+        return open_below(folder, parts)
+    return Source(os.path.join(folder or "", *parts), opened)
+
+
+def _of_sets(made: _bytes.Made, filesets: List[FileSet]) -> Built:
+    return Built(made, [_member(filesets[number].path, file_id) for number, file_id in made.picks], [])
+
+
+def withdraw(fileset: FileSet, uids: Iterable[str], set_id: str, uid: str) -> Built:
+    """What `dicomdir withdraw` makes of a file-set."""
+    return _of_sets(_bytes.withdraw(fileset.data, uids, set_id, uid), [fileset])
+
+
+def merge(filesets: Iterable[FileSet], set_id: str = "", uid: str = "") -> Built:
+    """The file-set of the images of several, as `dicomdir merge` makes it. Nothing is written before `write`.
+
+    Raises Fault: 51 to 65 of a file-set, which is number `source`; 41 to 43, 71 and 72.
+    """
+    sets = list(filesets)
+    try:
+        return _of_sets(_bytes.merge([one.data for one in sets], set_id, uid), sets)
+    except Fault as fault:
+        if not 51 <= fault.status <= 65:
+            raise
+        raise fault.with_path(sets[fault.source].path or f"file-set {fault.source}") from None

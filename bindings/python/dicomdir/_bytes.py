@@ -1,0 +1,138 @@
+"""The functions of dicomdir.h over bytes, without files."""
+from array import array
+from typing import Any, Callable, Iterable, List, NamedTuple, Sequence, Tuple, Union
+
+from ._calls import Answer, Input, Room, ask
+from ._faults import Fault
+
+Data = Union[bytes, bytearray, memoryview]
+# What is given of a file to `find_in_files`.
+ABSENT, UNREADABLE, WHOLE, DIGEST = range(4)
+
+
+def as_bytes(data: Data) -> bytes:
+    """The same bytes, copied where somebody may change them."""
+    return data if type(data) is bytes else bytes(data)
+
+
+def _asked(name: str, inputs: Sequence[Input], rooms: Sequence[Room], sizes: Callable[[Answer], Sequence[int]],
+           lone: bool = False) -> Tuple[Answer, List["array[int]"]]:
+    status, answer, outs = ask(name, inputs, rooms, sizes, lone)
+    if status:
+        raise Fault(status, answer)
+    return answer, outs
+
+
+def _ended(texts: Iterable[bytes]) -> Tuple[bytes, "array[int]"]:
+    """Texts one behind the other, and where each ends."""
+    ends: "array[int]" = array("Q")
+    size, all_texts = 0, list(texts)
+    for text in all_texts:
+        size += len(text)
+        ends.append(size)
+    return b"".join(all_texts), ends
+
+
+def _cut(text: bytes, ends: Iterable[int]) -> List[bytes]:
+    pieces, start = [], 0
+    for end in ends:
+        pieces.append(text[start:end])
+        start = end
+    return pieces
+
+
+def listing(data: Data) -> str:
+    """The text that `dicomdir list` prints of the DICOMDIR of any producer."""
+    data = as_bytes(data)
+    _, (text,) = _asked("list", [data], [Room("B", 1, len(data) // 2 + 64)], lambda answer: [answer.text])
+    return text.tobytes().decode("ascii")
+
+
+class Table(NamedTuple):
+    """A directory's records, four numbers each (offset, level, kind, in use), and their values at some tags."""
+    rows: "array[int]"
+    ends: "array[int]"
+    text: bytes
+
+
+def table(data: bytes, tags: Sequence[int]) -> Table:
+    """A row for each record, and where the value of each ends at each tag, by rows."""
+    width, few = len(tags), len(data) // 150
+    _, (rows, ends, text) = _asked(
+        "rows", [data, (array("I", tags), 1)],
+        [Room("I", 4, few), Room("Q", 1, few * width), Room("B", 1, len(data) // 2)],
+        lambda answer: [answer.rows, answer.rows * width, answer.text])
+    return Table(rows, ends, text.tobytes())
+
+
+class Front(NamedTuple):
+    """What a directory says before its records."""
+    set_id: str
+    uid: str
+    withdrawn: List[str]
+    unreached: int
+
+
+def front(data: bytes) -> Front:
+    """The File-set ID, the UID, withdrawn SOP Instance UIDs, and how many records no offset reaches."""
+    _, (ends, text, unreached) = _asked(
+        "front", [data], [Room("Q", 1, 3), Room("B", 1, 4096), Room("Q", 1, 1)],
+        lambda answer: [answer.rows, answer.text, 1], lone=True)
+    set_id, uid, withdrawn = (value.decode("latin-1") for value in _cut(text.tobytes(), ends))
+    return Front(set_id, uid, withdrawn.split("\\") if withdrawn else [], unreached[0])
+
+
+class Found(NamedTuple):
+    """What is found of a file: struct dicomdir_finding of dicomdir.h."""
+    kind: int
+    tag: int
+    within: int
+    cause: int
+
+
+def find_in_files(data: bytes, files: Sequence[Tuple[int, int, bytes]], keys: bool, strict: bool) -> List[Found]:
+    """What `dicomdir check` finds of files: of each the number of its record, what is given of it, and the bytes."""
+    contents, ends = _ended(content for _, _, content in files)
+    given = array("Q", [number for (row, kind, _), end in zip(files, ends) for number in (row, end, kind)])
+    _, (found,) = _asked("findings", [data, (given, 3), contents, bool(keys), bool(strict)],
+                         [Room("I", 4, len(files))], lambda answer: [answer.rows])
+    return [Found(*found[at:at + 4]) for at in range(0, len(found), 4)]
+
+
+def of_image(data: Data) -> bytes:
+    """The directory of one image file, to give to `merge`."""
+    _, (text,) = _asked("of_image", [as_bytes(data)], [Room("B", 1, 4096)], lambda answer: [answer.text])
+    return text.tobytes()
+
+
+class Made(NamedTuple):
+    """A DICOMDIR, and for each of its images the number of the input that has its file, and the File ID there."""
+    directory: bytes
+    picks: List[Tuple[int, str]]
+
+
+def _text(text: str) -> bytes:
+    return text.encode("utf-8", "replace")
+
+
+def _made(name: str, inputs: Sequence[Any], size: int, set_id: str, uid: str) -> Made:
+    few = size // 500 + 1
+    _, (text, sets, ends, files) = _asked(
+        name, [*inputs, _text(set_id), _text(uid)],
+        [Room("B", 1, size + 1024), Room("Q", 1, few), Room("Q", 1, few), Room("B", 1, size // 10 + 64)],
+        lambda answer: [answer.text, answer.rows, answer.rows, answer.files])
+    return Made(text.tobytes(), [(number, file.decode("ascii"))
+                                 for number, file in zip(sets, _cut(files.tobytes(), ends))])
+
+
+def merge(directories: Iterable[Data], set_id: str = "", uid: str = "") -> Made:
+    """The directory of the images of all these, as `dicomdir merge` makes it."""
+    data, ends = _ended(map(as_bytes, directories))
+    return _made("merge", [data, (ends, 1)], len(data), set_id, uid)
+
+
+def withdraw(directory: Data, uids: Iterable[str], set_id: str = "", uid: str = "") -> Made:
+    """The directory without the images of these SOP Instance UIDs, as `dicomdir withdraw` makes it."""
+    directory = as_bytes(directory)
+    texts, ends = _ended(map(_text, uids))
+    return _made("withdraw", [directory, texts, (ends, 1)], len(directory) + 80 * len(ends), set_id, uid)

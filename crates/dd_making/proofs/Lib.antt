@@ -1,0 +1,5 @@
+mod CutPieces
+mod Making
+mod PutPicks
+mod ReadUids
+mod SingleImages

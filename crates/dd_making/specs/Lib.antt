@@ -1,0 +1,5 @@
+pub mod Cuts
+pub mod Images
+pub mod Indexes
+pub mod Merges
+pub mod Refusals

@@ -1,0 +1,161 @@
+"""File-sets built by the package and by the program from the same files, compared byte for byte.
+
+    building.py ROOM
+"""
+import shutil
+import subprocess
+import sys
+from pathlib import Path
+
+import dicomdir
+from cases import EXAMPLES, TOP, Tally, packaged_images, run
+
+room = Path(sys.argv[1])
+
+
+def same_folders(one, other):
+    """Do two folders have the same files?"""
+    return subprocess.run(["diff", "-r", one, other], capture_output=True, check=False).returncode == 0
+
+
+def options(set_id, uid):
+    return (["--id", set_id] if set_id else []) + (["--uid", uid] if uid else [])
+
+
+def builds(tally, files):
+    """`index` and `FileSet.build` of the same sources."""
+    chance = tally.chance
+    some = chance.sample(files, chance.randrange(1, 12))
+    set_id, uid = chance.choice(("", "DISC1")), chance.choice(("", "1.2.3"))
+    number = tally.cases
+    out, mine = room / f"index{number}", room / f"built{number}"
+    _, output, _ = run("index", out, *some, *options(set_id, uid))
+    built = dicomdir.FileSet.build(some, set_id, uid)
+    skipped = [line.split(": ", 1)[1] for line in output.splitlines() if line.startswith("SKIP ")]
+    said = [str(fault) for _, fault in built.skipped]
+    disc = built.write(mine)
+    # The program also prints UIDs, which have no room in an answer.
+    alike = len(skipped) == len(said) and all(line.startswith(fault) for line, fault in zip(skipped, said))
+    same = same_folders(out, mine) and alike
+    checked = disc.check(keys=True, strict=True) == [] and run("check", "--keys", "--strict", mine)[0] == 0
+    tally.note("index", same and checked and disc.ID == set_id, some, output, said)
+
+
+def merges(tally, sets):
+    """`merge` of file-sets, and of the package."""
+    some = tally.chance.sample(sets, tally.chance.randrange(1, 4))
+    number = tally.cases
+    out, mine = room / f"merge{number}", room / f"merged{number}"
+    status, _, errors = run("merge", out, *some, "--id", "M")
+    try:
+        dicomdir.merge([dicomdir.read(one) for one in some], "M").write(mine)
+        tally.note("merge", status == 0 and same_folders(out, mine), some, errors)
+    except dicomdir.Fault as fault:
+        tally.note("merge refused", status == 1 and fault.words in errors, errors, str(fault))
+
+
+def withdraws(tally, folder):
+    """`withdraw` of two images and of one that is not there."""
+    disc = dicomdir.read(folder)
+    uids = [image.SOPInstanceUID for image in disc][:2] + ["1.2.3.99"]
+    out, mine = room / f"withdraw{tally.cases}", room / f"withdrawn{tally.cases}"
+    status, _, errors = run("withdraw", out, folder, *uids)
+    left = disc.withdraw(uids).write(mine)
+    tally.note("withdraw", status == 0 and same_folders(out, mine) and left.withdrawn == sorted(uids), errors, uids)
+
+
+def damages(tally, folder):
+    """What is found of damaged files, by `check` and by the package."""
+    damaged = room / f"damaged{tally.cases}"
+    shutil.copytree(folder, damaged)
+    disc, chance = dicomdir.read(damaged), tally.chance
+    for image in disc:
+        path, how = Path(image.path), chance.randrange(6)
+        data = path.read_bytes()
+        if how == 0:
+            path.unlink()
+        elif how == 1:
+            path.write_bytes(data[:-1] + bytes([data[-1] ^ 1]))
+        elif how == 2:
+            path.unlink()
+            path.mkdir()
+        elif how == 3:
+            path.write_bytes(EXAMPLES[0].read_bytes())
+        elif how == 4:
+            path.rename(path.with_name(path.name.lower() + ".;1"))
+    for words, keys in ((["check"], False), (["check", "--keys"], True)):
+        _, output, _ = run(*words, "--strict", damaged)
+        lines = [line.split() for line in output.splitlines()]
+        wanted = [" ".join(line[:2] if line[0] == "DIFFERS" else line) for line in lines]
+        found = [str(one) for one in disc.check(keys, strict=True)]
+        tally.note(" ".join(words), found == wanted or not found and wanted[0].startswith("OK "), wanted, found)
+
+
+def refused(status, function, *words):
+    """Does the call raise the fault of this number?"""
+    try:
+        function(*words)
+    except dicomdir.Fault as fault:
+        return fault.status == status and fault.path is not None
+    return False
+
+
+def refuses(tally):
+    """Folders that are taken, links in the way, sources that change or are gone, a disk that is full."""
+    source = room / "source.dcm"
+    source.write_bytes(EXAMPLES[0].read_bytes())
+    built = dicomdir.FileSet.build([source])
+    folder = room / "refused"
+    for name in "DICOMDIR", "dicomdir", "DICOMDIR.;1":
+        (folder / name).mkdir(parents=True)
+        tally.note("94", refused(94, built.write, folder), name)
+        (folder / name).rmdir()
+    (folder / "PT000001").symlink_to(room)
+    tally.note("95", refused(95, built.write, folder), "a link")
+    (folder / "PT000001").unlink()
+    (folder / "PT000001/ST000001/SE000001").mkdir(parents=True)
+    (folder / "PT000001/ST000001/SE000001/IM000001").symlink_to(room / "elsewhere")
+    tally.note("94", refused(94, built.write, folder) and not (room / "elsewhere").exists(), "a link as a file")
+    shutil.rmtree(folder)
+    (room / "plain").write_bytes(b"")
+    tally.note("95", refused(95, built.write, room / "plain/below") and refused(95, built.write, ""), "a file above")
+    source.write_bytes(source.read_bytes()[:-1] + b"\xff")
+    tally.note("97", refused(97, built.write, folder) and not (folder / "DICOMDIR").exists(), "a changed source")
+    source.unlink()
+    tally.note("92", refused(92, built.write, room / "absent"), "a source that is gone")
+    tally.note("92", refused(92, dicomdir.FileSet.build, [source]), "a source that is not there")
+    tally.note("93", refused(93, dicomdir.FileSet.build, [room]), "a folder")
+    tally.note("full", full(), "a disk that is full")
+
+
+def full():
+    """A file that may not grow: 96, and no DICOMDIR."""
+    import resource
+    import signal
+    signal.signal(signal.SIGXFSZ, signal.SIG_IGN)
+    built, folder = dicomdir.FileSet.build(EXAMPLES), room / "full"
+    before = resource.getrlimit(resource.RLIMIT_FSIZE)
+    resource.setrlimit(resource.RLIMIT_FSIZE, (100, before[1]))
+    try:
+        return refused(96, built.write, folder) and not (folder / "DICOMDIR").exists()
+    finally:
+        resource.setrlimit(resource.RLIMIT_FSIZE, before)
+
+
+def main():
+    tally = Tally("building", 3)
+    files = [*EXAMPLES, *packaged_images(), TOP / "README.md", TOP / "examples/ct1.DICOMDIR"]
+    for _ in range(25):
+        builds(tally, files)
+    sets = sorted(room.glob("index*"))
+    for _ in range(15):
+        merges(tally, sets)
+    with_images = [one for one in sets if len(dicomdir.read(one))]
+    for folder in with_images[:8]:
+        withdraws(tally, folder)
+        damages(tally, folder)
+    refuses(tally)
+    tally.end(12)
+
+
+main()

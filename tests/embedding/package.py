@@ -1,0 +1,207 @@
+"""The package beside pydicom, texts, names on discs, what `python -m dicomdir` prints, and where no import succeeds.
+
+    package.py MADE ROOM
+"""
+import builtins
+import copy
+import io
+import os
+import pickle
+import subprocess
+import sys
+import threading
+import warnings
+from pathlib import Path
+
+import dicomdir
+from cases import EXAMPLES, PACKAGED, run
+from dicomdir import _bytes, _calls, _text
+
+made, room = Path(sys.argv[1]), Path(sys.argv[2])
+passed = 0
+
+
+def same(what, found, wanted=True):
+    """Counts what is as wanted, and ends where something is not."""
+    global passed
+    if found != wanted:
+        sys.exit(f"package: {what}: {found!r} in place of {wanted!r}")
+    passed += 1
+
+
+def beside_pydicom():
+    """Each image's path, UID and keys, as pydicom's FileSet has them."""
+    import pydicom
+    from pydicom.fileset import FileSet
+    warnings.simplefilter("ignore")
+    names = ("SOPInstanceUID", "PatientID", "PatientName", "StudyInstanceUID", "StudyDate", "Modality")
+    for folder in sorted(made.iterdir()):
+        theirs, ours = FileSet(pydicom.dcmread(folder / "DICOMDIR")), dicomdir.read(folder)
+        wanted = sorted((one.path, *(str(one[name].value) for name in names)) for one in theirs)
+        found = sorted((one.path, *(one.get(name) or "" for name in names)) for one in ours)
+        same(f"{folder.name}: images", found, wanted)
+        same(f"{folder.name}: ID and UID", (ours.ID or None, ours.UID), (theirs.ID, str(theirs.UID)))
+        found, wanted = (sorted(one.find_values("PatientID")) for one in (ours, theirs))
+        same(f"{folder.name}: find_values", found, wanted)
+        one = next(iter(ours))
+        found, wanted = (sorted(it.path for it in disc.find(PatientID=one.PatientID, Modality=one.Modality))
+                         for disc in (ours, theirs))
+        same(f"{folder.name}: find", found, wanted)
+        same(f"{folder.name}: load", one.load().SOPInstanceUID, one.SOPInstanceUID)
+        same(f"{folder.name}: dataset", str(one.dataset().ReferencedSOPInstanceUIDInFile), one.SOPInstanceUID)
+        same(f"{folder.name}: another keyword", one.raw("RecordInUseFlag"), b"\xff\xff")
+
+
+def tree():
+    """Patients, studies, series and images, by names and by `children`."""
+    disc = dicomdir.FileSet.build(EXAMPLES).write(room / "tree")
+    same("patients", [one.PatientID for one in disc.patients], ["P1", "P2"])
+    images = [image for patient in disc.patients for study in patient.studies for series in study.series
+              for image in series.images]
+    same("images", images, list(disc))
+    same("parents", images[0].parent.parent.parent, disc.patients[0])
+    same("children", [one.record_type for one in disc.patients[0].children], ["STUDY"])
+    same("len and in", (len(disc), images[0] in disc, disc.records[0] in disc), (3, True, False))
+    same("inherited", (images[0].PatientID, images[0].raw("PatientID")), ("P1", b""))
+    same("find of a number", len(disc.find(SeriesNumber=4711)), 0)
+    same("several keywords", sorted(disc.find_values(["Modality", "PatientID"])), ["Modality", "PatientID"])
+    same("a copy", copy.copy(images[0]).PatientID, "P1")
+    for name in "Modalty", "modality", "_x":
+        same(f"no keyword {name}", hasattr(images[0], name), False)
+    same("bytes", len(dicomdir.read((room / "tree/DICOMDIR").read_bytes())), 3)
+    same("a file", dicomdir.read(room / "tree/DICOMDIR").check(), [])
+    same("listing", disc.listing(), run("list", room / "tree")[1])
+    # Under names that a disc has, and through no link.
+    for path in sorted((room / "tree").rglob("*"), reverse=True):
+        path.rename(path.with_name(path.name.lower() + (".;1" if path.is_file() else "")))
+    small = dicomdir.read(room / "tree")
+    same("small names", (small.check(), len(next(iter(small)).read()) > 0), ([], True))
+    os.rename(room / "tree/pt000001", room / "elsewhere")
+    os.symlink(room / "elsewhere", room / "tree/pt000001")
+    same("links", {one.kind for one in small.check()}, {"MISSING"})
+
+
+def paths_stay_below():
+    """A File ID that leads elsewhere has no path."""
+    data = (room / "../examples.DICOMDIR").read_bytes()
+    name = b"PT000001\\ST000001\\SE000001\\IM000001"
+    climbing = b"..\\..\\..\\..\\..\\..\\..\\..\\etc\\passwd"
+    for other in (climbing, b"/ETC/PASSWD", b"A\\\\B", b"A\\.\\B", b"A\0B", b"A\xffB"):
+        disc = dicomdir.FileSet(data.replace(name, other.ljust(len(name))), str(room))
+        image = disc.records[-1]
+        same(f"{other!r}: path", image.path, None)
+        same(f"{other!r}: check", [one.kind for one in disc.check()], ["BADID"])
+        try:
+            image.read()
+            same(f"{other!r}: read", False)
+        except dicomdir.Fault as fault:
+            same(f"{other!r}: read", fault.status, 92)
+
+
+def texts():
+    """Character sets, with pydicom and without."""
+    same("ISO_IR 100", _text.text_of("Müller".encode("latin-1"), b"ISO_IR 100"), "Müller")
+    same("ISO_IR 192", _text.text_of("Wang^王".encode(), b"ISO_IR 192"), "Wang^王")
+    japanese = b"Yamada^Tarou=\x1b$B;3ED\x1b(B^\x1b$BB@O:\x1b(B"
+    same("ISO 2022 IR 87", _text.text_of(japanese, b"\\ISO 2022 IR 87"), "Yamada^Tarou=山田^太郎")
+    same("no such set", _text.text_of(b"\xe9", b"NO SUCH SET"), "é")
+    there, _text._pydicom = _text._pydicom, None
+    with warnings.catch_warnings(record=True) as said:
+        warnings.simplefilter("always")
+        same("alone: Latin-1", _text.text_of(b"M\xfcller", b"ISO_IR 100"), "Müller")
+        same("alone: UTF-8", _text.text_of("王".encode(), b"ISO_IR 192"), "王")
+        same("alone: ASCII", _text.text_of(b"A", b"ISO_IR 144"), "A")
+        same("alone: nothing said", len(said), 0)
+        same("alone: as Latin-1", _text.text_of(b"\xb8", b"ISO_IR 144"), "¸")
+        _text.text_of(b"\xb9", b"ISO_IR 144")
+        same("alone: said once", [one.category for one in said], [UnicodeWarning])
+    _text._pydicom = there
+
+
+def prints():
+    """`python -m dicomdir`: a line for each record, and statuses."""
+    def main(*words):
+        ran = subprocess.run([sys.executable, "-m", "dicomdir", *map(str, words)], capture_output=True, check=False)
+        return ran.returncode, ran.stdout.decode().splitlines(), ran.stderr.decode()
+    folder = sorted(made.iterdir())[0]
+    status, lines, _ = main(folder)
+    same("lines", (status, len(lines)), (0, len(dicomdir.read(folder).records)))
+    status, lines, errors = main(room / "none")
+    same("no folder", (status, lines, errors), (1, [], f"FAULT {room}/none: 92 Absent\n"))
+    same("no words", main()[0], 2)
+    (room / "bad").mkdir()
+    (room / "bad/DICOMDIR").write_bytes(b"x" * 200)
+    same("no directory", main(room / "bad")[::2], (1, f"FAULT {room}/bad: 51 File 21 NotPart10\n"))
+
+
+def imports():
+    """Where the processor, the machine or the library does not serve, there is an ImportError with a sentence."""
+    script = """
+import builtins, io, sys, platform
+real = builtins.open
+def instead(path, *words, **names):
+    return io.StringIO("flags\\t: fpu sse2 pni\\n") if path == "/proc/cpuinfo" else real(path, *words, **names)
+builtins.open = instead
+if len(sys.argv) > 1: platform.machine = lambda: sys.argv[1]
+import dicomdir
+"""
+    lacking = "this one lacks cx16, lahf_lm, popcnt, sse4_1, sse4_2, ssse3"
+    for words, wanted in (([], lacking), (["aarch64"], "needs Linux on x86-64")):
+        ran = subprocess.run([sys.executable, "-c", script, *words], capture_output=True, check=False)
+        last = ran.stderr.decode().splitlines()[-1]
+        same("an older processor", (last.startswith("ImportError: dicomdir needs "), wanted in last), (True, True))
+
+
+def calls():
+    """What the library answers never leads beyond its room."""
+    class Answers:
+        """A library that answers what it is told to."""
+        def __init__(self, status, size):
+            self.status, self.size = status, size
+
+        def dicomdir_list(self, *words):
+            words[-1]._obj.text = self.size
+            return self.status
+    there = _calls.library
+    for status, size in ((0, 1 << 40), (1, 10)):
+        _calls.library = Answers(status, size)
+        try:
+            dicomdir.listing(b"")
+            same("more than there is room for", False)
+        except SystemError:
+            same("more than there is room for", True)
+    _calls.library = there
+    for bad in (lambda: _bytes.merge([], "a"), lambda: _bytes.merge([], "", "01"), lambda: _bytes.merge([], "é")):
+        try:
+            bad()
+            same("a bad ID", False)
+        except dicomdir.Fault as fault:
+            same("a bad ID", fault.status in (71, 72))
+    same("nothing", len(dicomdir.FileSet(_bytes.merge([]).directory)), 0)
+    try:
+        dicomdir.listing(b"")
+    except dicomdir.Fault as fault:
+        again = pickle.loads(pickle.dumps(fault))
+        same("a fault again", (str(again), again.status, again.within), ("51 File 21 NotPart10", 51, 21))
+    data = (room / "../examples.DICOMDIR").read_bytes()
+    for kind in (bytearray, memoryview):
+        same("other bytes", dicomdir.listing(kind(data)), dicomdir.listing(data))
+
+
+def threads():
+    """Eight threads read at once."""
+    data, found = (room / "../examples.DICOMDIR").read_bytes(), []
+    wanted = dicomdir.listing(data)
+    def work():
+        found.append(all(dicomdir.listing(data) == wanted and len(dicomdir.FileSet(data)) == 1 for _ in range(100)))
+    all_threads = [threading.Thread(target=work) for _ in range(8)]
+    for one in all_threads:
+        one.start()
+    for one in all_threads:
+        one.join()
+    same("threads", found, [True] * 8)
+
+
+for test in beside_pydicom, tree, paths_stay_below, texts, prints, imports, calls, threads:
+    test()
+print(f"package: {passed} answers are as wanted")
