@@ -19,6 +19,7 @@ mod NamingGroups
 mod NewUids
 mod NotedPlans
 mod OneOfVersions
+mod PassedSources
 mod PicksWithin
 mod PlacePicks
 mod Planned

@@ -9,6 +9,8 @@ pub mod MergeSteps
 pub mod Merging
 pub mod Noting
 pub mod Namings
+pub mod Passing
+pub mod PastFailures
 pub mod PatientNames
 pub mod Picking
 pub mod Planned

@@ -71,7 +71,8 @@ pub fn index_with_notes<S: Supply>(
     noted_plan(alloc, sources, choice, limits)
 }
 
-fn noted_plan(
+/// Plans the directory of what was read of sources, with notes on these.
+pub(crate) fn noted_plan(
     alloc: Global,
     sources: Sources,
     choice: &Choice,

@@ -6,6 +6,7 @@ ghost use Rattle.dd_elem.specs.Device.{IsLive};
 ghost use Rattle.dd_keys.specs.Kept.{digested_by};
 ghost use Rattle.dd_engine.specs.Batches.{HasRoom, HoldsOpen, IsOpenAnswer};
 ghost use Rattle.dd_engine.specs.Indexing.{Answer};
+ghost use Rattle.dd_engine.specs.PastFailures.{FailsSource};
 ghost use Rattle.dd_engine.specs.Supplies.{ReadingEndsBy};
 ghost use Rattle.dd_engine.specs.Supply.{AllStay, AreAnswers, EachGrows, Holds, IsOfSource, IsUsed};
 
@@ -50,7 +51,7 @@ impl Sources {
         (versions, origins, skipped)
     }
 
-    fn new(alloc: Global) -> Sources
+    pub(crate) fn new(alloc: Global) -> Sources
         ensures { Holds [] result }
     {
         Sources {
@@ -62,7 +63,7 @@ impl Sources {
 
     /// Keeps the answer for the next source, which is `at`. The digest of a version is open, and its bytes are in the
     /// next slot of the batch.
-    fn keep(
+    pub(crate) fn keep(
         &mut self,
         at: usize,
         answer: Result<Version, KeyFault>,
@@ -120,7 +121,7 @@ pub(crate) fn read_sources<S: Supply>(
 
 /// Reads the version of a source, with its digest open and its bytes in the slot; or gives the fault of a source that
 /// has none.
-fn read_one<S: Supply>(
+pub(crate) fn read_one<S: Supply>(
     alloc: Global,
     supply: &mut S,
     at: usize,
@@ -132,7 +133,8 @@ fn read_one<S: Supply>(
     ensures live { IsOk result → IsLive (S.refusals supply.old at) (S.unread supply.old at) }
     ensures refusals { IsOk result → AllStay (S.refusals supply.old) (S.refusals supply.new) }
     ensures unread { IsOk result → AllStay (S.unread supply.old) (S.unread supply.new) }
-    ensures fault { IfErr result (λ fault. ReadingEndsBy S.Supply fault supply.old supply.new) }
+    ensures fault { IfErr result (λ fault. FailsSource at fault (S.refusals supply.old)
+        (S.refusals supply.new) (S.unread supply.old) (S.unread supply.new)) }
     ensures used { IsUsed at (limit + 1) (S.lent supply.old) (S.lent supply.new)
         (S.reads supply.old) (S.reads supply.new) }
     ensures kept { (S.sources supply.new ≡ S.sources supply.old)

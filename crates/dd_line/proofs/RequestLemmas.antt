@@ -36,6 +36,7 @@ says_parts (ToIndex x) command given h =
       instances = sym (no_values (codes "instance") given (h.others (codes "instance") refl));
       dry_run = h.values.new_set.dry_run;
       link = no_flag (codes "link") given (h.others (codes "link") refl);
+      keep_going = h.values.keep_going;
     }
 says_parts (ToMerge x) command given h =
     let out = h.values.new_set.out in
@@ -48,6 +49,7 @@ says_parts (ToMerge x) command given h =
       instances = sym (no_values (codes "instance") given (h.others (codes "instance") refl));
       dry_run = h.values.new_set.dry_run;
       link = h.values.link;
+      keep_going = no_flag (codes "keep-going") given (h.others (codes "keep-going") refl);
     }
 says_parts (ToWithdraw x) command given h =
     let out = h.values.new_set.out in
@@ -61,6 +63,7 @@ says_parts (ToWithdraw x) command given h =
       instances = h.values.instances;
       dry_run = h.values.new_set.dry_run;
       link = no_flag (codes "link") given (h.others (codes "link") refl);
+      keep_going = no_flag (codes "keep-going") given (h.others (codes "keep-going") refl);
     }
 says_parts (ToCheck x) command given h =
     let out = no_values (codes "out") given (h.others (codes "out") refl) in
@@ -74,6 +77,7 @@ says_parts (ToCheck x) command given h =
       instances = sym (no_values (codes "instance") given (h.others (codes "instance") refl));
       dry_run = no_flag (codes "dry-run") given (h.others (codes "dry-run") refl);
       link = no_flag (codes "link") given (h.others (codes "link") refl);
+      keep_going = no_flag (codes "keep-going") given (h.others (codes "keep-going") refl);
     }
 says_parts (ToList x) command given h =
     let out = no_values (codes "out") given (h.others (codes "out") refl) in
@@ -87,6 +91,7 @@ says_parts (ToList x) command given h =
       instances = sym (no_values (codes "instance") given (h.others (codes "instance") refl));
       dry_run = no_flag (codes "dry-run") given (h.others (codes "dry-run") refl);
       link = no_flag (codes "link") given (h.others (codes "link") refl);
+      keep_going = no_flag (codes "keep-going") given (h.others (codes "keep-going") refl);
     }
 
 -- ---- the names

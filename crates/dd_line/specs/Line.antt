@@ -1,6 +1,6 @@
 -- The command line: which commands and arguments the program has, and what a line asks for.
 --
---   dicomdir index [OPTIONS] [--files0-from FILE] OUT SRC...
+--   dicomdir index [OPTIONS] [--files0-from FILE] [-k|--keep-going] OUT SRC...
 --   dicomdir merge [OPTIONS] [--files0-from FILE] [--link] OUT SET...
 --   dicomdir withdraw [OPTIONS] OUT SET UID...
 --   dicomdir check [--keys] [--strict] [--quiet] [--verbose] SET
@@ -69,6 +69,9 @@ long_name = codes "long"
 abbrev pub link_name : Text
 link_name = codes "link"
 
+abbrev pub keep_going_name : Text
+keep_going_name = codes "keep-going"
+
 -- the names of the paths
 abbrev pub out_name : Text
 out_name = codes "out"
@@ -99,9 +102,13 @@ text_option name = record (new_rule name) { long = Some name; value_names = 1 }
 abbrev pub most_bytes : ℕ
 most_bytes = 4294967295
 
+-- the letter of the one flag that has a short form, `-k`
+abbrev pub letter_of : Text → Option ℕ
+letter_of name = if bytes_eq name keep_going_name then Some 107 else None
+
 -- a flag `--NAME` that may be left out
 abbrev pub flag : Text → Rule
-flag name = record (new_rule name) { long = Some name; action = Some SetTrue }
+flag name = record (new_rule name) { long = Some name; short = letter_of name; action = Some SetTrue }
 
 -- a path that has to be given
 abbrev pub one_path : Text → Rule
@@ -135,10 +142,12 @@ writing_app name = with_rule (with_rule (with_rule (making_app name)
     (flag verbose_name))
     (one_path out_name)
 
--- `index`, with the options of a command that writes, and `[--files0-from FILE] OUT [SRC]...`
+-- `index`, with the options of a command that writes, and `[--files0-from FILE] [-k|--keep-going] OUT [SRC]...`
 abbrev pub index_app : App
-index_app =
-    with_rule (with_rule (writing_app (verb_name Index)) (text_option files0_from_name)) (any_paths source_name)
+index_app = with_rule (with_rule (with_rule (writing_app (verb_name Index))
+    (text_option files0_from_name))
+    (flag keep_going_name))
+    (any_paths source_name)
 
 -- `merge`, with those options, and `[--files0-from FILE] [--link] OUT [SET]...`
 abbrev pub merge_app : App
@@ -201,6 +210,7 @@ flags = (keys_name, Check ∷ [])
     ∷ (verbose_name, ListSet ∷ Check ∷ makers)
     ∷ (long_name, ListSet ∷ [])
     ∷ (link_name, Merge ∷ [])
+    ∷ (keep_going_name, Index ∷ [])
     ∷ []
 
 -- the options with a value and the paths, likewise
@@ -300,6 +310,7 @@ pub record Asks (a : Asked) (command : Text) (given : List Row) : Type 0 where
   pub verbose : a.verbose ≡ is_given verbose_name given
   pub long : a.long ≡ is_given long_name given
   pub link : a.link ≡ is_given link_name given
+  pub keep_going : a.keep_going ≡ is_given keep_going_name given
   pub files0_from : option_map string_bytes a.files0_from ≡ first_of files0_from_name given
 
 -- the line gives the path of one file-set, no ID and no UID, and has the greatest limit
@@ -327,6 +338,7 @@ pub record FitsCommand (a : Asked) : Type 0 where
   pub quiet : a.verb ≡ ListSet → a.quiet ≡ false
   pub long : a.verb ≢ ListSet → a.long ≡ false
   pub link : a.verb ≢ Merge → a.link ≡ false
+  pub keep_going : a.verb ≢ Index → a.keep_going ≡ false
   pub files0_from : ¬ TakesSources a.verb → a.files0_from ≡ None
   pub sources : TakesSources a.verb → a.files0_from ≡ None → 2 ≤ length a.paths.items
 

@@ -113,6 +113,7 @@ pub record GivesNoSource (name : Text) (given : List Row) : Type 0 where
 pub record IndexesAsGiven (x : IndexRequest) (given : List Row) : Type 0 where
   pub new_set : MakesAsGiven x.new_set given
   pub sources : HasSources line.source_name given x.sources
+  pub keep_going : x.keep_going ≡ is_given line.keep_going_name given
 
 pub record MergesAsGiven (x : MergeRequest) (given : List Row) : Type 0 where
   pub new_set : MakesAsGiven x.new_set given
@@ -187,6 +188,7 @@ pub record AsksToRead (set : Text) (a : Asked) : Type 0 where
   pub uids : a.uids.items ≡ []
   pub dry_run : a.dry_run ≡ false
   pub link : a.link ≡ false
+  pub keep_going : a.keep_going ≡ false
   pub files0_from : a.files0_from ≡ None
 
 -- ---- the parts of a request
@@ -223,6 +225,14 @@ links (ToWithdraw x) = false
 links (ToCheck x) = false
 links (ToList x) = false
 
+-- whether it goes on past sources that can't be opened or read
+abbrev pub keeps_going : Request → Bool
+keeps_going (ToIndex x) = x.keep_going
+keeps_going (ToMerge x) = false
+keeps_going (ToWithdraw x) = false
+keeps_going (ToCheck x) = false
+keeps_going (ToList x) = false
+
 -- the ID and the UID of the file-set that it makes
 abbrev pub id_of : Request → Option Text
 id_of r = option_and_then (λ n. option_map string_bytes n.id) (new_set_of r)
@@ -257,3 +267,4 @@ pub record SaysParts (r : Request) (command : Text) (given : List Row) : Type 0 
   pub instances : words_of (instances_of r) ≡ given_for line.instance_name given
   pub dry_run : is_dry r ≡ is_given line.dry_run_name given
   pub link : links r ≡ is_given line.link_name given
+  pub keep_going : keeps_going r ≡ is_given line.keep_going_name given

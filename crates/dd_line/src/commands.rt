@@ -38,6 +38,8 @@ pub(crate) const LONG: &str = "long";
 
 pub(crate) const LINK: &str = "link";
 
+pub(crate) const KEEP_GOING: &str = "keep-going";
+
 // The names of the paths.
 pub(crate) const OUT: &str = "out";
 
@@ -60,10 +62,14 @@ fn option<'a>(alloc: Global, name: &'a str, value_name: &'a str, help: &'a str) 
 fn flag<'a>(alloc: Global, name: &'a str, help: &'a str) -> Arg<'a>
     ensures { HasRule (flag name.entry.now) result }
 {
-    Arg::new(alloc, name)
+    let flag = Arg::new(alloc, name)
         .long(name)
         .action(ArgAction::SetTrue)
-        .help(help)
+        .help(help);
+    if name == KEEP_GOING {
+        return flag.short('k');
+    }
+    flag
 }
 
 fn verbose<'a>(alloc: Global) -> Arg<'a>
@@ -180,12 +186,19 @@ fn index_command<'a>(alloc: Global) -> Result<Command<'a>, AllocError>
 {
     let about = "Makes a file-set of image files: copies them, writes its DICOMDIR";
     let command = writing_command(alloc, "index", about)?.after_help(endings::INDEX);
-    command.arg(files0_from(alloc))?.arg(any_paths(
-        alloc,
-        SOURCE,
-        "SRC",
-        "DICOM files; one that is no image, or lacks a key, is skipped",
-    ))
+    command
+        .arg(files0_from(alloc))?
+        .arg(flag(
+            alloc,
+            KEEP_GOING,
+            "Skips a SRC that can't be opened or read; the status is then 3",
+        ))?
+        .arg(any_paths(
+            alloc,
+            SOURCE,
+            "SRC",
+            "DICOM files; one that is no image, or lacks a key, is skipped",
+        ))
 }
 
 fn merge_command<'a>(alloc: Global) -> Result<Command<'a>, AllocError>

@@ -12,7 +12,7 @@ Status:
   0  The work is done.
   1  It was refused: the error output says why, as FAULT <path>: <fault>.
   2  The command line has a mistake. Nothing was read or made.
-  3  check found something.
+  3  check found something, or index --keep-going a source that can't be read.
 
 'dicomdir COMMAND --help' says more of a command. The manual page dicomdir(1)
 and docs/FAULTS.md explain each fault and what to do about it.";
@@ -31,7 +31,8 @@ Lines of the output:
   NOTE <path>: has <uid>          This source is one of the two of a fault 41.
   DONE <n> instances, <b> bytes   The file-set is whole. Its DICOMDIR has <b>
                                   bytes. Compare <n> with your images: the
-                                  status is 0 where sources were left out, too.
+                                  status is 0 where sources were left out, too,
+                                  and 3 where --keep-going met an unread one.
                                   With --strict it is 1 after SKIP and NOTE
                                   lines (98 Strict), and nothing was made.
   PLAN <n> instances, <b> bytes, <t> bytes of images

@@ -62,7 +62,12 @@ fn index_request(alloc: Global, given: &ArgMatches<'_>) -> Result<Request, LineF
 {
     let new_set = new_set_of(alloc, Verb::Index, given)?;
     let sources = sources_of(alloc, Verb::Index, given, commands::SOURCE)?;
-    Ok(Request::Index(IndexRequest { new_set, sources }))
+    let keep_going = flag_of(given, commands::KEEP_GOING);
+    Ok(Request::Index(IndexRequest {
+        new_set,
+        sources,
+        keep_going,
+    }))
 }
 
 fn merge_request(alloc: Global, given: &ArgMatches<'_>) -> Result<Request, LineFault>

@@ -57,6 +57,8 @@ pub struct Asked {
     pub long: bool,
     /// `--link`: `merge` gives images hard links in place of copies.
     pub link: bool,
+    /// `--keep-going`: `index` skips a source that can't be opened or read.
+    pub keep_going: bool,
     /// `--files0-from` of `index` and `merge`: the file that holds names of more sources, each ended by a zero byte.
     pub files0_from: Option<String>,
 }
@@ -105,7 +107,7 @@ fn making_line(
     ensures verb { IfOk result (λ asked. asked.verb ≡ verb) }
     ensures set { IfOk result (AsksToMake new_set (words_of paths.items)) }
     ensures uids { IfOk result (λ asked. asked.uids.items ≡ []) }
-    ensures link { IfOk result (λ asked. asked.link ≡ false) }
+    ensures flags { IfOk result (λ asked. (asked.link ≡ false) × (asked.keep_going ≡ false)) }
     ensures files { IfOk result (λ asked. asked.files0_from ≡ None) }
 {
     paths.insert(0, new_set.out)?;
@@ -123,6 +125,7 @@ fn making_line(
         verbose: new_set.verbose,
         long: false,
         link: false,
+        keep_going: false,
         files0_from: None,
     })
 }
@@ -136,7 +139,7 @@ fn sources_line(
     ensures verb { IfOk result (λ asked. asked.verb ≡ verb) }
     ensures set { IfOk result (AsksToMake new_set (words_of sources.words.items)) }
     ensures uids { IfOk result (λ asked. asked.uids.items ≡ []) }
-    ensures link { IfOk result (λ asked. asked.link ≡ false) }
+    ensures flags { IfOk result (λ asked. (asked.link ≡ false) × (asked.keep_going ≡ false)) }
     ensures files { IfOk result (λ asked. asked.files0_from ≡ sources.files0_from) }
 {
     let mut asked = making_line(alloc, verb, new_set, sources.words)?;
@@ -166,6 +169,7 @@ fn reading_line(alloc: Global, verb: Verb, set: String) -> Result<Asked, AllocEr
         verbose: false,
         long: false,
         link: false,
+        keep_going: false,
         files0_from: None,
     })
 }
@@ -176,7 +180,11 @@ fn line_of(alloc: Global, request: Request) -> Result<Asked, AllocError>
     ensures fits { IfOk result FitsCommand }
 {
     match request {
-        Request::Index(index) => sources_line(alloc, Verb::Index, index.new_set, index.sources),
+        Request::Index(index) => {
+            let mut asked = sources_line(alloc, Verb::Index, index.new_set, index.sources)?;
+            asked.keep_going = index.keep_going;
+            Ok(asked)
+        }
         Request::Merge(merge) => {
             let mut asked = sources_line(alloc, Verb::Merge, merge.new_set, merge.sets)?;
             asked.link = merge.link;

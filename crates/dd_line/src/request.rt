@@ -92,6 +92,8 @@ pub struct Sources {
 pub struct IndexRequest {
     pub new_set: NewSet,
     pub sources: Sources,
+    /// `--keep-going`: a source that can't be opened or read is skipped.
+    pub keep_going: bool,
 }
 
 /// Asks for a file-set of other file-sets.

@@ -3,11 +3,11 @@ use Rattle.std.proofs.Common.{◌≡◌, ◌∙◌, Bool, List, [], Option, Some
 use Rattle.std.specs.Prelude.{slice_index_or}
 use Rattle.clap.specs.Words.{Row, Text}
 use Rattle.dd_line.specs.Line.{OnlyReads, words_of}
-use Rattle.dd_line.specs.Requests.{IsRequested, folder_of, is_dry, links, paths_of, verb_of}
+use Rattle.dd_line.specs.Requests.{IsRequested, folder_of, is_dry, keeps_going, links, paths_of, verb_of}
 use Rattle.dd_line.specs.declared.request.Request.{Request}
 use Rattle.dd_line.specs.declared.request.Request.TheVariants.{Index, Merge, Withdraw, Check, List as ListSet}
 use Rattle.dd_line.proofs.RequestLemmas.{says_parts}
-use Rattle.dicomdir.specs.DryRun.{HasDryRun, HasLink, first_path}
+use Rattle.dicomdir.specs.DryRun.{HasDryRun, HasKeepGoing, HasLink, first_path}
 
 -- a dry run
 pub requested_dry : (r : Request) (found : Option (Text × List Row)) → IsRequested r found → HasDryRun found
@@ -31,6 +31,12 @@ pub given_link : (r : Request) (found : Option (Text × List Row)) → IsRequest
     → HasLink found
 given_link r None h link = absurd h
 given_link r (Some (command, given)) h link = sym (says_parts r command given h).link ∙ link
+
+-- going on past sources that fail
+pub given_keep_going : (r : Request) (found : Option (Text × List Row)) → IsRequested r found → keeps_going r ≡ true
+    → HasKeepGoing found
+given_keep_going r None h keeps = absurd h
+given_keep_going r (Some (command, given)) h keeps = sym (says_parts r command given h).keep_going ∙ keeps
 
 -- the folder of a new file-set is the first of the paths
 first_folder : (r : Request) → ¬ OnlyReads (verb_of r) → folder_of r ≡ slice_index_or (words_of (paths_of r)) 0 []

@@ -3,14 +3,11 @@ use Rattle.std.proofs.Common.{◌≡◌, ◌∙◌, ◌++◌, ◌+◌, ◌<◌, 
 use Rattle.std.proofs.Common.{ap, arith, get_or, length, map, refl, subst, sym, take}
 use Rattle.std.proofs.lemmas.List.{take_more}
 use Rattle.dd_engine.specs.declared.choice.Choice.{Choice}
-use Rattle.dd_engine.specs.declared.noted_index.NotedIndex.{NotedIndex}
 use Rattle.dd_engine.specs.declared.noted_merge.NotedMerge.{NotedMerge}
-use Rattle.dd_engine.specs.IndexNotes.{NotesSupply}
 use Rattle.dd_engine.specs.MergeNotes.{NotesSets}
 use Rattle.dd_files.specs.Files.{Held}
-use Rattle.dicomdir.specs.FileSupply.{contents_by}
-use Rattle.dicomdir.specs.Indexes.{DoneIndexes, limits_of, most_of_source}
-use Rattle.dicomdir.specs.Made.{IsMemberPath, IsPathAt, MakesFileSet, MayLink}
+use Rattle.dicomdir.specs.Indexes.{limits_of}
+use Rattle.dicomdir.specs.Made.{IsMemberPath, MakesFileSet, MayLink}
 use Rattle.dicomdir.specs.Merges.{AreDirectories, DoneMerges, HasDirectory}
 
 -- what is so where a command has made its file-set is so where it is done
@@ -18,22 +15,6 @@ pub once_done : {E : Type 0} (r : Result ℕ E) (Made : Type 0) → (IsOk r → 
     → IfOk r (λ status. status ≡ 0 → Made)
 once_done (Ok status) Made made = λ done. made refl
 once_done (Err refusal) Made made = tt
-
-pub done_indexes : {E : Type 0} (r : Result ℕ E) (choice : Choice) (bytes : ℕ) (sources : List (List ℕ))
-    (folder : List ℕ) (old new : Option Held) (noted : NotedIndex) (count : ℕ) → count ≡ length sources
-    → NotesSupply choice (limits_of bytes) most_of_source (contents_by old sources) count (Ok noted)
-    → (IsOk r
-    → MakesFileSet (MayLink ⊥ (IsPathAt sources)) folder noted.indexed.plan noted.indexed.picks.items old new)
-    → DoneIndexes r choice bytes sources folder old new
-done_indexes (Ok status) choice bytes sources folder old new noted count same h made = λ done. record {
-  answers = h.0;
-  count = h.1 ∙ same;
-  read = h.2;
-  indexed = noted.indexed;
-  is = h.3.0;
-  made = made refl;
-}
-done_indexes (Err refusal) choice bytes sources folder old new noted count same h made = tt
 
 pub done_merges : {E : Type 0} (r : Result ℕ E) (choice : Choice) (bytes : ℕ) (given folders sets : List (List ℕ))
     (GivesLinks : Type 0) (folder : List ℕ) (old new : Option Held) (noted : NotedMerge)

@@ -9,6 +9,7 @@ mod ImagesMade
 mod LinesRefused
 mod Masking
 mod NameParts
+mod PastFailures
 mod Publishing
 mod SomeMade
 mod WholeSets

@@ -1,11 +1,12 @@
 -- A file-set was made, whichever files its images were made of.
 use Rattle.std.proofs.Common.{◌≡◌, ℕ, List, [], ◌∷◌, Option, Result, Ok, Err, IfOk, inl, inr, map}
-use Rattle.std.proofs.Common.{◌∙◌, false, subst, true}
+use Rattle.std.proofs.Common.{◌∙◌, ◌≢◌, ◌≤◌, arith, false, subst, true}
 use Rattle.std.proofs.lemmas.List.{length-map, map-id}
 use Rattle.std.specs.Prelude.{zip}
 use Rattle.clap.specs.Words.{Row, Text}
 use Rattle.dd_elem.specs.FileId.{Ranks}
 use Rattle.dd_engine.specs.declared.choice.Choice.{Choice}
+use Rattle.dd_engine.specs.PastFailures.{answers_of}
 use Rattle.dd_files.specs.Files.{Held}
 use Rattle.dd_version.specs.declared.parts.Parts.{Parts}
 use Rattle.dd_line.specs.Line.{OnlyReads}
@@ -15,7 +16,7 @@ use Rattle.dd_layout.specs.declared.record.PlanRecord.{PlanRecord}
 use Rattle.dd_layout.specs.Layouts.{Layout}
 use Rattle.dicomdir.specs.DryRun.{HasLink, first_path}
 use Rattle.dicomdir.specs.Indexes.{DoneIndexes, limits_of}
-use Rattle.dicomdir.specs.Made.{DoneMakes, IsMemberPath, IsPathAt, IsWhole, MakesFileSet, MakesImage, MakesRow}
+use Rattle.dicomdir.specs.Made.{DoneMakes, IsDone, IsMemberPath, IsPathAt, IsWhole, MakesFileSet, MakesImage, MakesRow}
 use Rattle.dicomdir.specs.Made.{MakesRows, MakesSome, MayLink}
 use Rattle.dicomdir.specs.Merges.{DoneMerges}
 use Rattle.dicomdir.proofs.DryRuns.{given_folder, given_link}
@@ -110,24 +111,33 @@ some_by GivesLinks Asked folder old new follows some = record {
       some.picks old new some.made;
 }
 
+unlike_one : (status : ℕ) → IsDone status → status ≢ 1
+unlike_one status (inl zero) one = absurd (omega (arith, zero, one))
+unlike_one status (inr three) one = absurd (omega (arith, three, one))
+
+zero_of_two : (status : ℕ) → status ≤ 1 → IsDone status → status ≡ 0
+zero_of_two status few (inl zero) = zero
+zero_of_two status few (inr three) = absurd (omega (arith, three, few))
+
 -- the same of a command that is done
 pub index_makes : {E : Type 0} (r : Result ℕ E) (choice : Choice) (bytes : ℕ) (sources : List (List ℕ))
     (folder : List ℕ) (old new : Option Held) → DoneIndexes r choice bytes sources folder old new
     → DoneMakes r ⊥ folder old new
 index_makes (Ok status) choice bytes sources folder old new indexes = λ done.
-    let h = indexes done in
+    let h = indexes (unlike_one status done) in
     some_made ⊥ (IsPathAt sources) folder h.indexed.plan h.indexed.picks.items old new
-    (index_is_whole choice (limits_of bytes) h.answers h.indexed h.is) h.made
+    (index_is_whole choice (limits_of bytes) (answers_of h.readings) h.indexed h.is) h.made
 index_makes (Err refusal) choice bytes sources folder old new indexes = tt
 
 pub merge_makes : {E : Type 0} (r : Result ℕ E) (choice : Choice) (bytes : ℕ) (given folders : List (List ℕ))
     (GivesLinks : Type 0) (folder : List ℕ) (old new : Option Held)
-    → DoneMerges r choice bytes given folders GivesLinks folder old new → DoneMakes r GivesLinks folder old new
-merge_makes (Ok status) choice bytes given folders GivesLinks folder old new merges = λ done.
-    let h = merges done in
+    → IfOk r (λ status. status ≤ 1) → DoneMerges r choice bytes given folders GivesLinks folder old new
+    → DoneMakes r GivesLinks folder old new
+merge_makes (Ok status) choice bytes given folders GivesLinks folder old new few merges = λ done.
+    let h = merges (zero_of_two status few done) in
     some_made GivesLinks (IsMemberPath folders) folder h.merged.plan h.merged.picks.items old new
     (merge_is_whole choice (limits_of bytes) given h.listings h.merged h.is) h.made
-merge_makes (Err refusal) choice bytes given folders GivesLinks folder old new merges = tt
+merge_makes (Err refusal) choice bytes given folders GivesLinks folder old new few merges = tt
 
 pub done_by : {E : Type 0} (r : Result ℕ E) (GivesLinks Asked : Type 0) (folder : List ℕ) (old new : Option Held)
     → (GivesLinks → Asked) → DoneMakes r GivesLinks folder old new → DoneMakes r Asked folder old new

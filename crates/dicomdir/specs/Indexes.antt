@@ -1,12 +1,18 @@
 -- What `index` makes of the files at its sources.
-use Rattle.std.specs.Prelude.{◌≡◌, ℕ, List, Option, Result, IfOk, length}
+use Rattle.std.specs.Prelude.{◌≡◌, ◌↔◌, ◌≤◌, ◌≢◌, ◌⊎◌, ℕ, zero, suc, List, Bool, true, false, Option, Result, Ok, Err, IfOk, IfSome, IsOk}
+use Rattle.std.specs.Prelude.{length, slice_get, if◌then◌else◌}
+use Rattle.std.specs.List.{AllByRecursion, list_any}
 use Rattle.dd_elem.specs.FileId.{max_rank}
 use Rattle.dd_engine.specs.declared.choice.Choice.{Choice}
 use Rattle.dd_engine.specs.declared.engine.Indexed.{Indexed}
+use Rattle.dd_engine.specs.declared.noted_index.NotedIndex.{NotedIndex}
 use Rattle.dd_engine.specs.Indexed.{IsIndexed}
-use Rattle.dd_engine.specs.Indexing.{Answer}
-use Rattle.dd_engine.specs.Supply.{AreAnswers}
+use Rattle.dd_engine.specs.IndexNotes.{NotesIndex}
+use Rattle.dd_engine.specs.PastFailures.{IsOfOne, Reading, answers_of}
+use Rattle.dd_engine.specs.Supply.{IsAnswer}
 use Rattle.dd_files.specs.Files.{Held}
+use Rattle.dd_keys.specs.declared.fault.KeyFault.{KeyFault}
+use Rattle.dd_keys.specs.declared.fault.KeyFault.TheVariants.{Read}
 use Rattle.dd_layout.specs.Limits.{Limits}
 use Rattle.dicomdir.specs.FileSupply.{contents_by}
 use Rattle.dicomdir.specs.Made.{IsPathAt, MakesFileSet, MayLink}
@@ -19,19 +25,65 @@ most_of_source = 4294967295
 abbrev pub limits_of : ℕ → Limits
 limits_of bytes = record { bytes = bytes; per_level = max_rank }
 
--- Of the files at these paths each was read. The best of all versions that they have is laid out under the label that is
--- asked for. The file-set of this layout was made in the folder, an image for each pick.
-pub record MakesIndex (choice : Choice) (bytes : ℕ) (sources : List (List ℕ)) (folder : List ℕ)
+-- ---- what was read
+
+-- of a source with these bytes, where they are known, this is the answer, or its bytes could not be had
+abbrev pub IsRead : Option (List ℕ) → Reading → Type 0
+IsRead contents (Ok answer) = IsAnswer most_of_source contents answer
+IsRead contents (Err fault) = IsOfOne fault
+
+-- this was read of the files at these paths
+pub record AreRead (sources : List (List ℕ)) (old : Option Held) (readings : List Reading) : Type 0 where
+  pub count : length readings ≡ length sources
+  pub each : (at : ℕ) → IfSome (slice_get readings at) (IsRead (contents_by old sources at))
+
+-- each source was opened and read to its end
+abbrev pub NoneFailed : List Reading → Type 0
+NoneFailed readings = AllByRecursion (λ reading. IsOk reading) readings
+
+-- Of the files at these paths each was read, or where the run keeps going, could not be. The best of all versions that
+-- they have is laid out under the label that is asked for.
+pub record Indexes (keeps_going : Bool) (choice : Choice) (bytes : ℕ) (sources : List (List ℕ)) (old : Option Held)
+    (noted : NotedIndex) : Type 0 where
+  pub readings : List Reading
+  pub read : AreRead sources old readings
+  pub all : keeps_going ≡ false → NoneFailed readings
+  pub notes : NotesIndex choice (limits_of bytes) (answers_of readings) (Ok noted)
+
+-- ---- the status
+
+-- a source was skipped since its bytes could not be had
+abbrev pub is_unread : KeyFault → Bool
+is_unread Read = true
+is_unread fault = false
+
+abbrev pub has_failed : List (ℕ × KeyFault) → Bool
+has_failed skipped = list_any (λ skip. is_unread skip.1) skipped
+
+-- the status of a run that skipped these sources, where its output has this status
+abbrev pub status_past : ℕ → List (ℕ × KeyFault) → ℕ
+status_past zero skipped = if has_failed skipped then 3 else 0
+status_past (suc status) skipped = suc status
+
+-- a status that `index` may end with: 3 only where it goes on past sources that fail
+abbrev pub IsIndexStatus : Bool → ℕ → Type 0
+IsIndexStatus keeps_going status = (status ≤ 1) ⊎ ((status ≡ 3) × (keeps_going ≡ true))
+
+-- ---- what was made
+
+-- The file-set of the layout was made in the folder, an image for each pick. The status is 0 exactly where each source
+-- was opened and read to its end.
+pub record MakesIndex (choice : Choice) (bytes : ℕ) (sources : List (List ℕ)) (folder : List ℕ) (status : ℕ)
     (old new : Option Held) : Type 0 where
-  pub answers : List Answer
-  pub count : length answers ≡ length sources
-  pub read : AreAnswers most_of_source (contents_by old sources) answers
+  pub readings : List Reading
+  pub read : AreRead sources old readings
+  pub all : (status ≡ 0) ↔ NoneFailed readings
   pub indexed : Indexed
-  pub is : IsIndexed choice (limits_of bytes) answers indexed
+  pub is : IsIndexed choice (limits_of bytes) (answers_of readings) indexed
   pub made : MakesFileSet (MayLink ⊥ (IsPathAt sources)) folder indexed.plan indexed.picks.items old new
 
 -- `index` that is done has made this
 abbrev pub DoneIndexes : {E : Type 0} → Result ℕ E → Choice → ℕ → List (List ℕ) → List ℕ → Option Held → Option Held
     → Type 0
 DoneIndexes r choice bytes sources folder old new =
-    IfOk r (λ status. status ≡ 0 → MakesIndex choice bytes sources folder old new)
+    IfOk r (λ status. status ≢ 1 → MakesIndex choice bytes sources folder status old new)

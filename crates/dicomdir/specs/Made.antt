@@ -114,6 +114,10 @@ pub record MakesSome (GivesLinks : Type 0) (folder : List ℕ) (old new : Option
   pub all : IsWhole plan picks
   pub made : MakesFileSet (λ _ _. GivesLinks) folder plan picks old new
 
+-- the command did its work, whatever it found
+abbrev pub IsDone : ℕ → Type 0
+IsDone status = (status ≡ 0) ⊎ (status ≡ 3)
+
 -- a command that is done has made some file-set in the folder
 abbrev pub DoneMakes : {E : Type 0} → Result ℕ E → Type 0 → List ℕ → Option Held → Option Held → Type 0
-DoneMakes r GivesLinks folder old new = IfOk r (λ status. status ≡ 0 → MakesSome GivesLinks folder old new)
+DoneMakes r GivesLinks folder old new = IfOk r (λ status. IsDone status → MakesSome GivesLinks folder old new)

@@ -3,9 +3,8 @@ use Rattle.std.specs.Prelude.{◌≡◌, ◌≤◌, ◌⊎◌, ℕ, List, Option
 use Rattle.clap.specs.Words.{Row, Text, subcommand_of, takes}
 use Rattle.dd_files.specs.Files.{Held}
 use Rattle.dd_line.specs.Line.{OnlyReads, dicomdir_app, words_of}
-use Rattle.dd_line.specs.Requests.{RequestsBadName, folder_of, is_dry, links, verb_of}
+use Rattle.dd_line.specs.Requests.{RequestsBadName, folder_of, is_dry, keeps_going, links, verb_of}
 use Rattle.dd_line.specs.declared.request.Request.{Request}
-use Rattle.dd_line.specs.declared.line.Verb.{Verb}
 use Rattle.dd_line.specs.declared.line.Verb.TheVariants.{Check}
 use Rattle.dicomdir.specs.Made.{MakesSome}
 
@@ -17,15 +16,18 @@ IsTaken words = takes dicomdir_app (words_of words) ≡ true
 abbrev pub line_of : {Z : Type 0} → List (String Z) → Option (Text × List Row)
 line_of words = subcommand_of dicomdir_app (words_of words)
 
--- a status that a command of this kind may end with, once its line is read
-abbrev pub IsStatusOf : Verb → ℕ → Type 0
-IsStatusOf verb status = (status ≤ 1) ⊎ ((status ≡ 3) × (verb ≡ Check))
+-- the command finds something where it ends with 3: `check`, or an `index` that goes on past sources that fail
+abbrev pub MayFind : Request → Type 0
+MayFind r = (verb_of r ≡ Check) ⊎ (keeps_going r ≡ true)
+
+-- a status that a run of this request may end with, once its line is read and its names are
+abbrev pub IsStatusOf : Request → ℕ → Type 0
+IsStatusOf r status = (status ≤ 1) ⊎ ((status ≡ 3) × MayFind r)
 
 -- a status that a run of this request may end with
 pub record IsRequestStatus (request : Request) (status : ℕ) : Type 0 where
   pub most : status ≤ 3
-  -- only `check` finds something
-  pub findings : status ≡ 3 → verb_of request ≡ Check
+  pub findings : status ≡ 3 → MayFind request
   -- the line is at fault only where it gives an ID or a UID of the wrong form, and the work of such a line is never done
   pub bad : status ≡ 2 → RequestsBadName request
   pub good : status ≡ 0 → ¬ RequestsBadName request

@@ -13,6 +13,8 @@ pub(crate) struct FileSupply<'a, F: Files> {
     files: &'a mut F,
     paths: &'a [String],
     counts: &'a mut [SourceCounts],
+    /// The numbers of the sources that have no path, in rising order: these are not there.
+    bad_names: &'a [usize],
     ghost counted: { length counts.now ≡ length paths.now },
 }
 
@@ -25,6 +27,7 @@ impl<F: Files> Drop for FileSupply<'_, F> {
             files: _files,
             paths: _,
             counts: _counts,
+            bad_names: _,
         } = self;
     }
 }
@@ -35,6 +38,7 @@ impl<'a, F: Files> FileSupply<'a, F> {
         files: &'a mut F,
         paths: &'a [String],
         counts: &'a mut [SourceCounts],
+        bad_names: &'a [usize],
     ) -> FileSupply<'a, F>
         requires { length counts.old ≡ length paths.now }
         ensures reference { result.files.ghost_name ≡ files.entry.ghost_name }
@@ -46,8 +50,13 @@ impl<'a, F: Files> FileSupply<'a, F> {
             files,
             paths,
             counts,
+            bad_names,
         }
     }
+}
+
+fn contains(numbers: &[usize], at: usize) -> bool {
+    numbers.binary_search(&at).is_ok()
 }
 
 impl<F: Files + Progress> Supply for FileSupply<'_, F> {
@@ -80,7 +89,7 @@ impl<F: Files + Progress> Supply for FileSupply<'_, F> {
             return Err(NotThere);
         }
         let mut counts = self.counts[at];
-        if counts.is_live() {
+        if counts.is_live() && !contains(self.bad_names, at) {
             if let Ok(reader) = self.files.source(paths[at].as_str()) {
                 counts.lend();
                 self.counts[at] = counts;

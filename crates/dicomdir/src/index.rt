@@ -1,11 +1,9 @@
 ghost use Rattle.std.specs.Prelude.{◌≡◌, ◌≤◌, IfErr, IfOk, IsErr, IsOk, false, length, true};
 ghost use Rattle.dd_elem.specs.Device.{HasFailed};
 ghost use Rattle.dd_engine.specs.Indexed.{IsNamed, IsWithin};
-ghost use Rattle.dd_engine.specs.IndexNotes.{NotesSupply};
 ghost use Rattle.dd_engine.specs.Noting.{AreBelow, IsBelow};
 ghost use Rattle.dd_line.specs.Line.{words_of};
-ghost use Rattle.dicomdir.specs.FileSupply.{contents_by};
-ghost use Rattle.dicomdir.specs.Indexes.{DoneIndexes, limits_of, most_of_source};
+ghost use Rattle.dicomdir.specs.Indexes.{DoneIndexes, Indexes, IsIndexStatus, has_failed, status_past};
 ghost use Rattle.dicomdir.specs.Refusal.{IsOfWork};
 
 use crate::dates::show_dates;
@@ -13,15 +11,18 @@ use crate::file_set::FileSet;
 use crate::file_supply::FileSupply;
 use crate::making::{Making, make_file_set, tell_plan_of_images};
 use crate::note_lines::{
-    has_notes, refuse_noted, tell_conflict, tell_left_out, tell_names, tell_skipped,
+    Unread, has_notes, refuse_noted, tell_conflict, tell_left_out, tell_names, tell_skipped,
 };
 use crate::origins::SourceFiles;
 use crate::refusal::{ProgramFault, Refusal, Subject};
 use crate::source_counts::SourceCounts;
 use crate::sum::{Sum, show_sum};
 use dd_elem::{Memory, Write};
-use dd_engine::{EngineFault, NotedFault, NotedIndex, index_with_notes};
+use dd_engine::{
+    EngineFault, NotedFault, NotedIndex, PastFailures, index_past_failures, index_with_notes,
+};
 use dd_files::{Files, Hints, Progress, SOURCE_LIMIT, Step};
+use dd_keys::KeyFault;
 use dd_layout::Limits;
 use std::alloc::Global;
 use std::fmt;
@@ -35,7 +36,7 @@ pub(crate) fn run_index<F: Files + Progress + Hints, O: Write>(
     out: &mut O,
 ) -> Result<u8, Refusal>
     ensures refusal { IfErr result (IsOfWork (length sources.now)) }
-    ensures status { IfOk result (λ status. status ≤ 1) }
+    ensures status { IfOk result (IsIndexStatus making.entry.keep_going) }
     ensures dry { making.entry.dry_run ≡ true → F.held files.new ≡ F.held files.old }
     ensures made { making.entry.dry_run ≡ false
         → DoneIndexes result making.entry.names.now.choice making.entry.max_bytes
@@ -43,7 +44,7 @@ pub(crate) fn run_index<F: Files + Progress + Hints, O: Write>(
 {
     let mut sum = Sum::new();
     let done = index_sources(making, sources, &mut sum, files, out);
-    if making.explains && matches!(done, Ok(0)) {
+    if making.explains && matches!(done, Ok(0 | 3)) {
         show_sum(&sum, files);
     }
     done
@@ -58,7 +59,7 @@ fn index_sources<F: Files + Progress + Hints, O: Write>(
     out: &mut O,
 ) -> Result<u8, Refusal>
     ensures refusal { IfErr result (IsOfWork (length sources.now)) }
-    ensures status { IfOk result (λ status. status ≤ 1) }
+    ensures status { IfOk result (IsIndexStatus making.entry.keep_going) }
     ensures dry { making.entry.dry_run ≡ true → F.held files.new ≡ F.held files.old }
     ensures made { making.entry.dry_run ≡ false
         → DoneIndexes result making.entry.names.now.choice making.entry.max_bytes
@@ -68,21 +69,22 @@ fn index_sources<F: Files + Progress + Hints, O: Write>(
     files.begin_step(Step::Reading, sources.len() as u64);
     let answer = index_files(making, sources, &mut counts, files);
     files.hide_line();
-    let noted = match answer {
-        Ok(noted) => noted,
+    let past = match answer {
+        Ok(past) => past,
         Err(fault) => return Err(refuse(sources, &fault, out)),
     };
-    if tell_noted(&noted, sources, out).is_err() {
+    if tell_noted(&past, sources, making.bad_names, out).is_err() {
         return Ok(1);
     }
-    *sum = Sum::of(&noted, sources.len());
-    let NotedIndex { indexed, notes } = &noted;
+    *sum = Sum::of(&past.noted, sources.len());
+    let NotedIndex { indexed, notes } = &past.noted;
     let is_noted = !indexed.skipped.is_empty() || has_notes(notes);
     refuse_noted(making.strict, is_noted)?;
     show_dates(making.explains, &indexed.plan, files);
     if making.dry_run {
         let images = bytes_of(&indexed.picks, &counts);
-        return Ok(tell_plan_of_images(&indexed.plan, images, out));
+        let status = tell_plan_of_images(&indexed.plan, images, out);
+        return Ok(status_past(status, &indexed.skipped));
     }
     let set = FileSet {
         folder: making.folder,
@@ -90,18 +92,48 @@ fn index_sources<F: Files + Progress + Hints, O: Write>(
         origins: &SourceFiles { paths: sources },
         picks: &indexed.picks,
     };
-    make_file_set(making.alloc, &set, files, out)
+    let status = make_file_set(making.alloc, &set, files, out)?;
+    Ok(status_past(status, &indexed.skipped))
 }
 
-fn tell_noted<O: Write>(noted: &NotedIndex, sources: &[String], out: &mut O) -> fmt::Result
-    requires within { IsWithin (length sources.now) noted.now.indexed }
-    requires below { AreBelow (λ at. at) (length sources.now) noted.now.notes.left_out.items }
+/// Gives the status of a run whose output worked or failed, by the sources that it skipped: 3 where one could not be
+/// opened or read.
+fn status_past(status: u8, skipped: &[(usize, KeyFault)]) -> u8
+    requires { status ≤ 1 }
+    ensures { result ≡ status_past status skipped.now }
+{
+    if status == 0 && has_failed(skipped) {
+        3
+    } else {
+        status
+    }
+}
+
+fn has_failed(skipped: &[(usize, KeyFault)]) -> bool
+    ensures { result ≡ has_failed skipped.now }
+{
+    skipped.iter().any(|skip| matches!(skip.1, KeyFault::Read))
+}
+
+fn tell_noted<O: Write>(
+    past: &PastFailures,
+    sources: &[String],
+    bad_names: &[usize],
+    out: &mut O,
+) -> fmt::Result
+    requires within { IsWithin (length sources.now) past.now.noted.indexed }
+    requires below { AreBelow (λ at. at) (length sources.now) past.now.noted.notes.left_out.items }
     ensures worked { IsOk result → O.failures out.new ≡ O.failures out.old }
     ensures failed { IsErr result → HasFailed (O.failures out.old) (O.failures out.new) }
 {
-    tell_skipped(&noted.indexed.skipped, sources, out)?;
-    tell_left_out(&noted.notes.left_out, sources, out)?;
-    tell_names(&noted.notes.names, out)
+    let NotedIndex { indexed, notes } = &past.noted;
+    let unread = Unread {
+        absent: &past.absent,
+        bad_names,
+    };
+    tell_skipped(&indexed.skipped, unread, sources, out)?;
+    tell_left_out(&notes.left_out, sources, out)?;
+    tell_names(&notes.names, out)
 }
 
 fn bytes_of(picks: &[usize], counts: &[SourceCounts]) -> u64 {
@@ -119,27 +151,29 @@ fn index_files<F: Files + Progress>(
     sources: &[String],
     counts: &mut [SourceCounts],
     files: &mut F,
-) -> Result<NotedIndex, NotedFault<EngineFault, usize>>
+) -> Result<PastFailures, NotedFault<EngineFault, usize>>
     requires { length counts.old ≡ length sources.now }
-    ensures answers { NotesSupply making.entry.names.now.choice
-        (limits_of making.entry.max_bytes) most_of_source
-        (contents_by (F.held files.old) (words_of sources.now)) (length sources.now) result }
+    ensures answers { IfOk result (λ past. Indexes making.entry.keep_going
+        making.entry.names.now.choice making.entry.max_bytes (words_of sources.now)
+        (F.held files.old) past.noted) }
     ensures named { IfErr result (λ noted. IsNamed (length sources.now) noted.fault) }
     ensures conflict { IfErr result (λ noted. IsBelow (λ at. at) (length sources.now) noted.conflict) }
-    ensures within { IfOk result (λ noted. IsWithin (length sources.now) noted.indexed) }
-    ensures below { IfOk result (λ noted.
-        AreBelow (λ at. at) (length sources.now) noted.notes.left_out.items) }
+    ensures within { IfOk result (λ past. IsWithin (length sources.now) past.noted.indexed) }
+    ensures below { IfOk result (λ past.
+        AreBelow (λ at. at) (length sources.now) past.noted.notes.left_out.items) }
     ensures kept { F.held files.new ≡ F.held files.old }
 {
-    let mut supply = FileSupply::new(files, sources, counts);
+    let mut supply = FileSupply::new(files, sources, counts, making.bad_names);
     let limits = Limits::of_bytes(making.max_bytes);
-    index_with_notes(
-        making.alloc,
-        &mut supply,
-        &making.names.choice,
-        limits,
-        SOURCE_LIMIT,
-    )
+    let Making { alloc, names, .. } = making;
+    if making.keep_going {
+        return index_past_failures(alloc, &mut supply, &names.choice, limits, SOURCE_LIMIT);
+    }
+    let noted = index_with_notes(alloc, &mut supply, &names.choice, limits, SOURCE_LIMIT)?;
+    Ok(PastFailures {
+        noted,
+        absent: Vec::new(alloc),
+    })
 }
 
 fn counts_of(alloc: Global, sources: usize) -> Result<Vec<SourceCounts>, Memory>

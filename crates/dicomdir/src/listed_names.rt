@@ -1,4 +1,4 @@
-ghost use Rattle.std.specs.Prelude.{◌≡◌, ◌≢◌, ◌<◌, ◌++◌, ℕ, [], ◌∷◌, None, Err, length, map, string_bytes};
+ghost use Rattle.std.specs.Prelude.{◌≡◌, ◌≢◌, ◌<◌, ◌≤◌, ◌++◌, ℕ, [], ◌∷◌, None, Err, length, map, string_bytes};
 ghost use Rattle.std.specs.Prelude.{IfOk, IfSome, IsOk, OnOk};
 ghost use Rattle.dicomdir.specs.ListedNames.{AreNames, FailsAt, IsListOf, IsName, parts};
 ghost use Rattle.dicomdir.specs.declared.listed_names.NamesFault.TheVariants as faults;
@@ -47,6 +47,50 @@ pub(crate) fn names_in(alloc: Global, list: &[u8]) -> Result<Vec<String>, NamesF
         return Err(NamesFault::BadName(1));
     }
     Ok(names)
+}
+
+/// Writes `?` over each byte outside 20H to 7EH of a name that is not UTF-8. Gives the numbers of these names, from
+/// `first` for the first name.
+pub(crate) fn mask_bad_names(
+    alloc: Global,
+    list: &mut [u8],
+    first: usize,
+) -> Result<Vec<usize>, Memory>
+    ensures { length list.new ≡ length list.old }
+{
+    let mut bad_names = Vec::new(alloc);
+    let mut number = first;
+    let mut start = 0;
+    while start < list.len() {
+        let end = end_of_name(list, start);
+        if str::from_utf8(&list[start..end]).is_err() {
+            mask_bytes(&mut list[start..end]);
+            bad_names.push(number)?;
+        }
+        number = number.saturating_add(1);
+        start = end + 1;
+    }
+    Ok(bad_names)
+}
+
+fn end_of_name(list: &[u8], start: usize) -> usize
+    requires { start < length list.now }
+    ensures { (start ≤ result) × (result ≤ length list.now) }
+{
+    match list[start..].iter().position(|byte| *byte == 0) {
+        Some(at) => start + at,
+        None => list.len(),
+    }
+}
+
+fn mask_bytes(name: &mut [u8])
+    ensures { length name.new ≡ length name.old }
+{
+    for byte in name.iter_mut() {
+        if !(b' '..=b'~').contains(byte) {
+            *byte = b'?';
+        }
+    }
 }
 
 fn cut_first(list: &[u8]) -> (&[u8], &[u8])

@@ -1,4 +1,4 @@
-ghost use Rattle.std.specs.Prelude.{◌≡◌, ◌≤◌, ◌⊎◌, All, IfErr, IfOk, IsOk, length, string_bytes};
+ghost use Rattle.std.specs.Prelude.{◌≡◌, ◌≤◌, ◌⊎◌, All, IfErr, IfOk, IsOk, false, length, string_bytes};
 ghost use Rattle.dd_elem.specs.Device.{HasFailed};
 ghost use Rattle.dd_layout.specs.Plans.{size};
 ghost use Rattle.dd_report.specs.Text.{TakesText};
@@ -32,6 +32,10 @@ pub(crate) struct Making<'a> {
     pub(crate) dry_run: bool,
     /// Whether images get hard links in place of copies.
     pub(crate) link: bool,
+    /// Whether sources that can't be opened or read are skipped.
+    pub(crate) keep_going: bool,
+    /// The numbers of the sources that have no path, since their names are not UTF-8, in rising order.
+    pub(crate) bad_names: &'a [usize],
     /// Whether a person is shown what became of the sources.
     pub(crate) explains: bool,
 }
@@ -50,6 +54,7 @@ impl<'a> Making<'a> {
         ensures strict { result.strict ≡ new_set.now.strict }
         ensures dry { result.dry_run ≡ new_set.now.dry_run }
         ensures link { result.link ≡ link }
+        ensures keep_going { result.keep_going ≡ false }
     {
         Making {
             alloc,
@@ -59,6 +64,8 @@ impl<'a> Making<'a> {
             strict: new_set.strict,
             dry_run: new_set.dry_run,
             link,
+            keep_going: false,
+            bad_names: &[],
             explains,
         }
     }

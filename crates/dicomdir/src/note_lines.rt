@@ -18,9 +18,32 @@ use std::fmt::{self, InlineText};
 /// The text of a UID: it has at most 64 characters (PS3.5 section 9.1).
 pub(crate) type UidText = InlineText<64>;
 
+/// The sources that could not be read, by their numbers, in rising order.
+#[derive(Clone, Copy)]
+pub(crate) struct Unread<'a> {
+    /// Those that could not be opened.
+    pub(crate) absent: &'a [usize],
+    /// Those of them that have no path, since their names are not UTF-8.
+    pub(crate) bad_names: &'a [usize],
+}
+
+impl Unread<'_> {
+    /// Says why the source of this number was not read.
+    fn fault_of(&self, at: usize) -> ProgramFault {
+        if self.bad_names.binary_search(&at).is_ok() {
+            ProgramFault::BadName(at.saturating_add(1))
+        } else if self.absent.binary_search(&at).is_ok() {
+            ProgramFault::Absent
+        } else {
+            ProgramFault::Unread
+        }
+    }
+}
+
 /// Prints each source that is skipped, and why.
 pub(crate) fn tell_skipped<O: Write>(
     skipped: &[(usize, KeyFault)],
+    unread: Unread<'_>,
     sources: &[String],
     out: &mut O,
 ) -> fmt::Result
@@ -29,7 +52,10 @@ pub(crate) fn tell_skipped<O: Write>(
     ensures failed { IsErr result → HasFailed (O.failures out.old) (O.failures out.new) }
 {
     for (at, fault) in skipped {
-        let words = Words::of(fault);
+        let words = match fault {
+            KeyFault::Read => Words::of(&unread.fault_of(*at)),
+            fault => Words::of(fault),
+        };
         let path = sources[*at].as_str();
         print_line(&["SKIP ", path, ": ", words.as_str()], out)?;
     }

@@ -2,9 +2,9 @@
 ghost use Rattle.std.specs.Prelude.{◌≡◌, ◌≤◌, ◌<◌, ◌⊎◌, ◌↔◌, IfErr, IfOk, length, true, false};
 ghost use Rattle.dd_line.specs.Line.{HasBadLimit, HasBadName, IsCheck, IsReading, LacksSources, OnlyReads};
 ghost use Rattle.dd_line.specs.Requests.{folder_of, is_dry, links, read_of, verb_of};
-ghost use Rattle.dicomdir.specs.DryRun.{HasDryRun, HasLink, first_path};
+ghost use Rattle.dicomdir.specs.DryRun.{HasDryRun, HasKeepGoing, HasLink, first_path};
 ghost use Rattle.dicomdir.specs.EmptyPaths.{HasEmptyPath, RequestsEmptyPath};
-ghost use Rattle.dicomdir.specs.Made.{DoneMakes, MakesSome};
+ghost use Rattle.dicomdir.specs.Made.{DoneMakes, IsDone, MakesSome};
 ghost use Rattle.dicomdir.specs.Refusal.{IsAmong, IsBadLine, IsOfWork};
 ghost use Rattle.dicomdir.specs.Words.{IsRequestStatus, IsStatusOf, IsTaken, MakesRequested, line_of};
 
@@ -28,6 +28,8 @@ use std::slice;
 struct Work<'a> {
     request: &'a Request,
     names: &'a Names,
+    /// The numbers of the sources whose names are not UTF-8, in rising order.
+    bad_names: &'a [usize],
 }
 
 /// The paths that a command works on.
@@ -43,11 +45,12 @@ struct LinePaths<'a> {
 /// - 0 where the work is done or help was asked for
 /// - 1 where the run was refused or the output failed
 /// - 2 where the command line is at fault
-/// - 3 where `check` found something
+/// - 3 where `check` found something, or where `index --keep-going` passed a source that it could not read
 ///
 /// `index [--id ID] [--uid UID] [--max-bytes N] [--files0-from FILE] OUT SRC...` copies the images to their
 /// File IDs in the folder OUT and writes OUT/DICOMDIR. It prints `SKIP <path>: <fault>` for each source that
-/// has no version, and `DONE <n> instances, <size> bytes`. A refusal is one line on the error output, `FAULT
+/// has no version, and `DONE <n> instances, <size> bytes`. With `--keep-going` it skips a source that can't be opened
+/// or read, too. A refusal is one line on the error output, `FAULT
 /// <path>: <fault>`, with `-` where it concerns no path. A text about the command line is the parser's, with `?`
 /// for each control character of the words. What is printed to the error output may get lost.
 ///
@@ -82,7 +85,7 @@ pub fn run<F: Files + Progress + Hints, O: Write, E: Write>(
     err: &mut E,
 ) -> u8
     ensures status { result ≤ 3 }
-    ensures findings { result ≡ 3 → IsCheck (line_of words.items) }
+    ensures findings { result ≡ 3 → IsCheck (line_of words.items) ⊎ HasKeepGoing (line_of words.items) }
     ensures line { result ≡ 2 → (files.new ≡ files.old) × (out.new ≡ out.old) }
 
     // The work of a line with a bad name or limit, or without sources, is never done.
@@ -105,7 +108,7 @@ pub fn run<F: Files + Progress + Hints, O: Write, E: Write>(
     // Where they say that, some file-set in the first path: all images of a plan, in the order of its records, and then
     // its directory. Each image is a copy, a file of the version that is planned there. Only with `--link` may it be a
     // hard link to a file.
-    ensures made { result ≡ 0 → IsTaken words.items
+    ensures made { IsDone result → IsTaken words.items
         → ¬ IsReading (line_of words.items) → ¬ HasDryRun (line_of words.items)
         → MakesSome (HasLink (line_of words.items)) (first_path (line_of words.items))
         (F.held files.old) (F.held files.new) }
@@ -132,7 +135,7 @@ fn run_request<F: Files + Progress + Hints, O: Write, E: Write>(
     ensures done { result ≡ 0 → err.new ≡ err.old }
     ensures kept { OnlyReads (verb_of request.now) → F.held files.new ≡ F.held files.old }
     ensures dry { is_dry request.now ≡ true → F.held files.new ≡ F.held files.old }
-    ensures made { result ≡ 0
+    ensures made { IsDone result
         → MakesRequested request.now (F.held files.old) (F.held files.new) }
 {
     let names = match names_of(alloc, request) {
@@ -149,6 +152,7 @@ fn run_request<F: Files + Progress + Hints, O: Write, E: Write>(
             let work = Work {
                 request,
                 names: &names,
+                bad_names: &[],
             };
             run_named(alloc, work, files, out, err)
         }
@@ -163,12 +167,12 @@ fn run_named<F: Files + Progress + Hints, O: Write, E: Write>(
     out: &mut O,
     err: &mut E,
 ) -> u8
-    ensures status { IsStatusOf (verb_of work.entry.request.now) result }
+    ensures status { IsStatusOf work.entry.request.now result }
     ensures done { result ≡ 0 → err.new ≡ err.old }
     ensures kept { OnlyReads (verb_of work.entry.request.now)
         → F.held files.new ≡ F.held files.old }
     ensures dry { is_dry work.entry.request.now ≡ true → F.held files.new ≡ F.held files.old }
-    ensures made { result ≡ 0
+    ensures made { IsDone result
         → MakesRequested work.entry.request.now (F.held files.old) (F.held files.new) }
 {
     let request = work.request;
@@ -181,14 +185,23 @@ fn run_named<F: Files + Progress + Hints, O: Write, E: Write>(
         Err(refusal) => return tell_refusal(&refusal, request, given, files, err),
     };
     let sources = match &listed {
-        Some(all) => all.as_slice(),
+        Some(all) => all.paths.as_slice(),
         None => given.sources,
+    };
+    let bad_names: &[usize] = match &listed {
+        Some(all) => all.bad_names.as_slice(),
+        None => &[],
+    };
+    let named = Work {
+        request,
+        names: work.names,
+        bad_names,
     };
     let paths = LinePaths {
         folder: given.folder,
         sources,
     };
-    match run_verb(alloc, work, sources, files, out) {
+    match run_verb(alloc, named, sources, files, out) {
         Ok(status) => status,
         Err(refusal) => tell_refusal(&refusal, request, paths, files, err),
     }
@@ -335,7 +348,7 @@ fn run_verb<F: Files + Progress + Hints, O: Write>(
 ) -> Result<u8, Refusal>
     requires { length (read_of work.request.now) ≤ length sources.now }
     ensures refusal { IfErr result (IsOfWork (length sources.now)) }
-    ensures status { IfOk result (λ status. IsStatusOf (verb_of work.entry.request.now) status) }
+    ensures status { IfOk result (λ status. IsStatusOf work.entry.request.now status) }
 
     ensures kept { OnlyReads (verb_of work.entry.request.now)
         → F.held files.new ≡ F.held files.old }
@@ -346,11 +359,17 @@ fn run_verb<F: Files + Progress + Hints, O: Write>(
         → DoneMakes result (links work.entry.request.now ≡ true)
         (folder_of work.entry.request.now) (F.held files.old) (F.held files.new) }
 {
-    let Work { request, names } = work;
+    let Work {
+        request,
+        names,
+        bad_names,
+    } = work;
     let explains = shows_hints(request, files);
     match request {
         Request::Index(index) => {
-            let making = Making::of(alloc, &index.new_set, names, false, explains);
+            let mut making = Making::of(alloc, &index.new_set, names, false, explains);
+            making.keep_going = index.keep_going;
+            making.bad_names = bad_names;
             run_index(making, sources, files, out)
         }
         Request::Merge(merge) => {

@@ -5,12 +5,21 @@ ghost use Rattle.dicomdir.specs.ListedNames.{AreWithListed, HasNoList, parts};
 ghost use Rattle.dicomdir.specs.Refusal.{IsOfWork};
 
 use crate::file_set::refuse_taken;
-use crate::listed_names::{NamesFault, names_in};
+use crate::listed_names::{NamesFault, mask_bad_names, names_in};
 use crate::refusal::{ProgramFault, Refusal, Subject};
 use dd_elem::Memory;
 use dd_files::{Files, ReadFault, SOURCE_LIMIT, read_whole};
 use dd_line::{Request, Sources};
 use std::alloc::Global;
+
+/// The paths of a line and, after them, the names of its list.
+#[derive(Drop)]
+pub(crate) struct AllSources {
+    pub(crate) paths: Vec<String>,
+    /// The numbers of the names that are not UTF-8, in rising order. Each stands there as lines show it, and is no
+    /// path.
+    pub(crate) bad_names: Vec<usize>,
+}
 
 /// Lists the paths that a request with a list of names reads: the paths of its line, and then the names. None if it has
 /// no list. Refused first where the folder of the new file-set already has a directory; then where the list can't be
@@ -19,21 +28,21 @@ pub(crate) fn all_sources<F: Files>(
     alloc: Global,
     request: &Request,
     files: &mut F,
-) -> Result<Option<Vec<String>>, Refusal>
+) -> Result<Option<AllSources>, Refusal>
     ensures refusal { (paths : ℕ) → IfErr result (IsOfWork paths) }
     ensures none { HasNoList request.now → IfOk result (λ listed. listed ≡ None) }
     ensures all { IfOk result (λ listed.
-        IfSome listed (λ all. AreWithListed (read_of request.now) all.items)) }
+        IfSome listed (λ all. AreWithListed (read_of request.now) all.paths.items)) }
     ensures least { IfOk result (λ listed.
-        IfSome listed (λ all. length (read_of request.now) ≤ length all.items)) }
+        IfSome listed (λ all. length (read_of request.now) ≤ length all.paths.items)) }
     ensures kept { F.held files.new ≡ F.held files.old }
 {
     if let Some(set) = request.new_set() {
         refuse_taken(alloc, set.out.as_str(), files)?;
     }
     match request {
-        Request::Index(index) => listed_sources(alloc, &index.sources, files),
-        Request::Merge(merge) => listed_sources(alloc, &merge.sets, files),
+        Request::Index(index) => { listed_sources(alloc, &index.sources, index.keep_going, files) }
+        Request::Merge(merge) => listed_sources(alloc, &merge.sets, false, files),
         Request::Withdraw(_) | Request::Check(_) | Request::List(_) => Ok(None),
     }
 }
@@ -41,21 +50,29 @@ pub(crate) fn all_sources<F: Files>(
 fn listed_sources<F: Files>(
     alloc: Global,
     sources: &Sources,
+    keep_going: bool,
     files: &mut F,
-) -> Result<Option<Vec<String>>, Refusal>
+) -> Result<Option<AllSources>, Refusal>
     ensures refusal { (paths : ℕ) → IfErr result (IsOfWork paths) }
     ensures none { sources.now.files0_from ≡ None → IfOk result (λ listed. listed ≡ None) }
     ensures all { IfOk result (λ listed.
-        IfSome listed (λ all. AreWithListed sources.now.words.items all.items)) }
+        IfSome listed (λ all. AreWithListed sources.now.words.items all.paths.items)) }
     ensures least { IfOk result (λ listed.
-        IfSome listed (λ all. length sources.now.words.items ≤ length all.items)) }
+        IfSome listed (λ all. length sources.now.words.items ≤ length all.paths.items)) }
     ensures kept { F.held files.new ≡ F.held files.old }
 {
     match &sources.files0_from {
         None => Ok(None),
         Some(list) => {
-            let bytes = list_bytes(alloc, list.as_str(), files)?;
-            Ok(Some(with_listed(alloc, sources.words.as_slice(), &bytes)?))
+            let words = sources.words.as_slice();
+            let mut bytes = list_bytes(alloc, list.as_str(), files)?;
+            let bad_names = if keep_going {
+                mask_bad_names(alloc, &mut bytes, words.len())?
+            } else {
+                Vec::new(alloc)
+            };
+            let paths = with_listed(alloc, words, &bytes)?;
+            Ok(Some(AllSources { paths, bad_names }))
         }
     }
 }

@@ -43,6 +43,8 @@ const REFUSED: &str = "\
 /// how each such run ends, and with what in its folder. A `front` has at most as many bytes as were read.
 const UNREAD: &str = "\
 a.dcm 1 0 454: index out a.dcm --uid 2.25.0 > 1 [] [FAULT a.dcm: 93 Unread|] none none
+a.dcm 1 0 454: index out a.dcm --uid 2.25.0 -k > 3 [SKIP a.dcm: 93 Unread|DONE 0 instances, 320 bytes|] [] none other
+a.dcm 2 454 454: index out a.dcm --uid 2.25.0 -k > 1 [] [FAULT a.dcm: 93 Unread|] whole none
 a.dcm 2 0 453: index out a.dcm --uid 2.25.0 > 1 [] [FAULT a.dcm: 93 Unread|] front none
 a.dcm 2 454 454: index out a.dcm --uid 2.25.0 > 1 [] [FAULT a.dcm: 93 Unread|] whole none
 a.dcm 1 455 455: index out a.dcm --uid 2.25.0 > 0 [DONE 1 instances, 876 bytes|] [] whole whole

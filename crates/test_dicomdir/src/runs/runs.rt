@@ -56,6 +56,24 @@ NOTE -: Patient ID P1 has 2 names: DOE^JUDY, DOE^JOHN|DONE 2 instances, 1130 byt
 - - dicomdir index full none.dcm --uid 1.02 --id bad > 2 [] [FAULT -: 72 BadSetId|] kept
 - - dicomdir index out none.dcm --uid 2.25.0 > 1 [] [FAULT none.dcm: 92 Absent|] kept
 - - dicomdir index out b.dcm a.dcm no.dcm none.dcm > 1 [] [FAULT no.dcm: 92 Absent|] kept
+- - dicomdir index out b.dcm no.dcm a.dcm none.dcm --keep-going --uid 2.25.0 > \
+3 [SKIP b.dcm: 32 NotImage 1.2.840.10008.5.1.4.1.1.88.11|SKIP no.dcm: 92 Absent|SKIP none.dcm: 92 Absent|\
+DONE 1 instances, 876 bytes|] [] changed
+- - dicomdir index -k out a.dcm b.dcm --uid 2.25.0 > \
+0 [SKIP b.dcm: 32 NotImage 1.2.840.10008.5.1.4.1.1.88.11|DONE 1 instances, 876 bytes|] [] changed
+- - dicomdir index -k out none.dcm --uid 2.25.0 > 3 [SKIP none.dcm: 92 Absent|DONE 0 instances, 320 bytes|] [] changed
+- - dicomdir index -k out none.dcm a.dcm --uid 2.25.0 --dry-run > \
+3 [SKIP none.dcm: 92 Absent|PLAN 1 instances, 876 bytes, 454 bytes of images|] [] kept
+- - dicomdir index -k --strict out a.dcm none.dcm > 1 [SKIP none.dcm: 92 Absent|] [FAULT -: 98 Strict|] kept
+- - dicomdir index -k out none.dcm d.dcm n.dcm > \
+1 [NOTE n.dcm: has 1.2.3.4.5|NOTE d.dcm: has 1.2.3.4.6|] [FAULT -: 41 Conflict 1.2.3.4.5 1.2.3.4.6|] kept
+- - dicomdir index -k out none.dcm '' > 1 [] [FAULT : 92 Absent|] kept
+- - dicomdir index -k out --files0-from gap > 1 [] [FAULT gap: 99 BadName 2|] kept
+- - dicomdir index -k out none.dcm --files0-from latin --uid 2.25.0 > \
+3 [SKIP none.dcm: 92 Absent|SKIP d?.dcm: 99 BadName 3|DONE 1 instances, 876 bytes|] [] changed
+- - dicomdir index -k taken none.dcm a.dcm > \
+1 [SKIP none.dcm: 92 Absent|] [FAULT taken/PT000001/ST000001/SE000001/IM000001: 94 Create|] kept
+9 - dicomdir index -k out none.dcm a.dcm > 1 [SKIP none] [] kept
 - - dicomdir index full a.dcm --uid 2.25.0 > 1 [] [FAULT full/DICOMDIR: 94 Create|] kept
 - - dicomdir index full/ b.dcm none.dcm > 1 [] [FAULT full/DICOMDIR: 94 Create|] kept
 - - dicomdir index taken a.dcm --uid 2.25.0 > \

@@ -8,6 +8,7 @@ use Rattle.dd_keys.specs.Kept.{digested_by}
 use Rattle.dd_engine.proofs.Answering.{all_later, answer_before, answers_more, ends_later, holds_closed}
 use Rattle.dd_engine.proofs.Answering.{holds_first, holds_next, live_before}
 use Rattle.dd_engine.proofs.Lending.{more_reads, still_later}
+use Rattle.dd_engine.proofs.PassedSources.{source_ends}
 use Rattle.dd_engine.proofs.sources.read_sources.Goals as goal
 
 pub loop-at-init : goal.loop-at-init
@@ -59,7 +60,7 @@ returns-in_err-answer-clause-fault g c =
     let p = err_from_is_err_and c.from_residual.result c.from_residual.ensures.1 in
     let before = c.loop-at.invariant in
     rw (p.1, p.2) (ends_later c.in_err-answer.field-0.0 _ _ _ _ _ _ _ _ before.sources before.refusals before.unread
-    c.in_err-answer.ensures.fault)
+    (source_ends c.loop-at.at _ _ _ _ _ _ (omega arith) c.in_err-answer.ensures.fault))
 
 pub returns-in_err-keep-clause-fault : goal.returns-in_err-keep-clause-fault
 returns-in_err-keep-clause-fault g c =

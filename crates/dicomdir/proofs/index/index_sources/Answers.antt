@@ -1,21 +1,35 @@
 -- What was made is of the answer of the engine, whose sources are the files as they were.
-use Rattle.std.proofs.Common.{sym}
-use Rattle.std.specs.Prelude.{string_bytes}
-use Rattle.std.proofs.lemmas.List.{length-map}
+use Rattle.std.proofs.Common.{refl}
 use Rattle.dd_line.specs.Line.{words_of}
-use Rattle.dicomdir.proofs.EngineMade.{done_indexes}
+use Rattle.dicomdir.proofs.PastFailures.{at_most_one, done_index, index_status}
 use Rattle.dicomdir.proofs.index.index_sources.Goals as goal
 
 pub returns-clause-made : goal.returns-clause-made
 returns-clause-made g c = λ makes.
-    done_indexes c.make_file_set.result c.args.making.names.now.choice c.args.making.max_bytes
-    (words_of c.args.sources.now) c.args.making.folder.now _ _ c.in-Ok.noted _
-    (sym (length-map c.args.sources.now (λ word. string_bytes word)))
+    let making = c.args.making in
+    rw (c.status_past-2.ensures, c.deref-3.ensures.value) (done_index making.names.now.choice making.max_bytes
+    (words_of c.args.sources.now) _ c.in-Ok.past.noted making.keep_going c.in_ok-status.status making.folder.now _
+    c.in_ok-status.ensures.status
     (rw c.begin_step.ensures.kept at c.in-Ok.ensures.answers)
-    (λ done. rw (
+    (rw (
       c.deref-2.ensures.value,
       c.show_dates.ensures.kept,
       c.hide_line.ensures.kept,
       c.index_files-answer.ensures.kept,
       c.begin_step.ensures.kept,
-    ) at c.make_file_set.ensures.made done)
+    ) at c.in_ok-status.ensures.made refl))
+
+pub returns-clause-status : goal.returns-clause-status
+returns-clause-status g c =
+    let making = c.args.making in
+    rw (c.status_past-2.ensures, c.deref-3.ensures.value) (index_status making.names.now.choice making.max_bytes
+    (words_of c.args.sources.now) _ c.in-Ok.past.noted making.keep_going c.in_ok-status.status
+    c.in_ok-status.ensures.status c.in-Ok.ensures.answers)
+
+pub returns-then-making-clause-status : goal.returns-then-making-clause-status
+returns-then-making-clause-status g c =
+    let making = c.args.making in
+    rw (c.status_past.ensures, c.deref-then-making-2.ensures.value) (index_status making.names.now.choice
+    making.max_bytes (words_of c.args.sources.now) _ c.in-Ok.past.noted making.keep_going
+    c.tell_plan_of_images-status.result
+    (at_most_one c.tell_plan_of_images-status.result c.tell_plan_of_images-status.ensures.status) c.in-Ok.ensures.answers)

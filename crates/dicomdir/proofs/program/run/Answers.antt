@@ -1,13 +1,13 @@
-use Rattle.std.proofs.Common.{arith, inl, subst, sym}
+use Rattle.std.proofs.Common.{◌≡◌, ◌≤◌, ℕ, arith, inl, inr, subst, sym}
 use Rattle.std.specs.Prelude.{◌⊎◌}
 use Rattle.dd_line.specs.Line.{HasBadLimit, HasBadName, IsCheck, IsReading, LacksSources, OnlyReads}
 use Rattle.dd_line.specs.Requests.{verb_of}
 use Rattle.dd_line.proofs.RequestLemmas.{given_bad, requested_bad, requested_check, requested_reads}
-use Rattle.dicomdir.specs.DryRun.{HasDryRun, HasLink, first_path}
+use Rattle.dicomdir.specs.DryRun.{HasDryRun, HasKeepGoing, HasLink, first_path}
 use Rattle.dicomdir.specs.EmptyPaths.{HasEmptyPath}
-use Rattle.dicomdir.specs.Made.{MakesSome}
+use Rattle.dicomdir.specs.Made.{IsDone, MakesSome}
 use Rattle.dicomdir.specs.Words.{IsTaken, line_of}
-use Rattle.dicomdir.proofs.DryRuns.{requested_dry, requested_work}
+use Rattle.dicomdir.proofs.DryRuns.{given_keep_going, requested_dry, requested_work}
 use Rattle.dicomdir.proofs.EmptyWords.{requested_empty}
 use Rattle.dicomdir.proofs.LinesRefused.{taken_lacks, taken_mistake}
 use Rattle.dicomdir.proofs.SomeMade.{requested_makes}
@@ -16,9 +16,12 @@ use Rattle.dicomdir.proofs.program.run.Goals as goal
 -- ---- a line that is read
 
 pub returns-in-Ok-clause-findings : goal.returns-in-Ok-clause-findings
-returns-in-Ok-clause-findings g c = λ is.
-    subst (λ words. IsCheck (line_of words)) c.as_slice.ensures.value
-    (requested_check c.in-Ok.request _ c.in-Ok.ensures.request (c.run_request.ensures.status.findings is))
+returns-in-Ok-clause-findings g c = λ is. elim (c.run_request.ensures.status.findings is) [
+  | inl check ↦ inl (subst (λ words. IsCheck (line_of words)) c.as_slice.ensures.value
+      (requested_check c.in-Ok.request _ c.in-Ok.ensures.request check))
+  | inr keeps ↦ inr (subst (λ words. HasKeepGoing (line_of words)) c.as_slice.ensures.value
+      (given_keep_going c.in-Ok.request _ c.in-Ok.ensures.request keeps))
+]
 
 pub returns-in-Ok-clause-words : goal.returns-in-Ok-clause-words
 returns-in-Ok-clause-words g c = λ is _.
@@ -70,6 +73,10 @@ returns-in-Ok-clause-made g c = λ is _ writes works.
 
 -- ---- a line that is refused
 
+refused_line : (status : ℕ) → IsDone status → 1 ≤ status → status ≤ 2 → ⊥
+refused_line status (inl zero) least most = omega (arith, zero, least)
+refused_line status (inr three) least most = omega (arith, three, most)
+
 pub returns-clause-words : goal.returns-clause-words
 returns-clause-words g c = λ is taken.
     let still = subst (λ words. IsTaken words) (sym c.as_slice.ensures.value) taken in
@@ -106,4 +113,5 @@ returns-clause-made g c = λ is taken _ _.
     let still = subst (λ words. IsTaken words) (sym c.as_slice.ensures.value) taken in
     let amiss = c.refuse_line.ensures.mistake (taken_mistake c.in-Err.fault _ _ (c.in-Err.ensures.passes still)) in
     absurd {A = MakesSome (HasLink (line_of c.args.words.items)) (first_path (line_of c.args.words.items))
-    (g.F.Files.held c.args.files.now) (g.F.Files.held c.args.files.now)} (omega (arith, is, amiss.0))
+    (g.F.Files.held c.args.files.now) (g.F.Files.held c.args.files.now)}
+    (refused_line c.refuse_line.result is amiss.0 c.refuse_line.ensures.status)
