@@ -11,7 +11,7 @@ _dicomdir_options()
 {
     case $1 in
         '') echo '-h --help -V --version' ;;
-        index) echo '--id --uid --max-bytes --strict --dry-run --quiet --verbose --files0-from -h --help' ;;
+        index) echo '--id --uid --max-bytes --strict --dry-run --quiet --verbose --files0-from -k --keep-going -h --help' ;;
         merge) echo '--id --uid --max-bytes --strict --dry-run --quiet --verbose --files0-from --link -h --help' ;;
         withdraw) echo '--id --uid --max-bytes --strict --dry-run --quiet --verbose -h --help' ;;
         check) echo '--keys --strict --quiet --verbose -h --help' ;;

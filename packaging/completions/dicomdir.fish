@@ -33,6 +33,8 @@ complete -c dicomdir -n '__fish_seen_subcommand_from index merge withdraw check 
     -d 'Shows hints where there is no terminal, too'
 complete -c dicomdir -n '__fish_seen_subcommand_from index merge' -l files0-from -r -F \
     -d 'Reads names from FILE, or -, ended by zero bytes'
+complete -c dicomdir -n '__fish_seen_subcommand_from index' -s k -l keep-going \
+    -d 'Skips a SRC that can'\''t be opened or read; the status is then 3'
 complete -c dicomdir -n '__fish_seen_subcommand_from merge' -l link \
     -d 'Makes hard links to the images in place of copies'
 complete -c dicomdir -n '__fish_seen_subcommand_from check' -l keys \

@@ -8,7 +8,7 @@ import sys
 from pathlib import Path
 
 import dicomdir
-from cases import EXAMPLES, TOP, Tally, packaged_images, run
+from cases import EXAMPLES, PACKAGED, TOP, Tally, packaged_images, run
 
 room = Path(sys.argv[1])
 
@@ -125,6 +125,8 @@ def refuses(tally):
     tally.note("92", refused(92, built.write, room / "absent"), "a source that is gone")
     tally.note("92", refused(92, dicomdir.FileSet.build, [source]), "a source that is not there")
     tally.note("93", refused(93, dicomdir.FileSet.build, [room]), "a folder")
+    foreign = dicomdir.read(PACKAGED / "dicomdirtests/DICOMDIR")
+    tally.note("61", refused(61, dicomdir.merge, [foreign]), "a directory of another program")
     tally.note("full", full(), "a disk that is full")
 
 
