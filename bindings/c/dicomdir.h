@@ -7,7 +7,7 @@
  *   where its number is 0. Outputs, *answer and inputs do not overlap, and nobody writes to an input meanwhile.
  * - The result is a status:
  *     0            the work is done, and *answer has the sizes of the outputs;
- *     1            no room: *answer has the sizes that are wanted. Call again with these;
+ *     1            no room: *answer has the sizes that are needed. Call again with these;
  *     2            arguments at fault, as the function says;
  *     31 and more  the fault of this number in docs/FAULTS.md.
  *   Where the status is not 0, nothing but *answer is written.
@@ -31,7 +31,7 @@ extern "C" {
 /* Statuses that no fault of docs/FAULTS.md has. */
 enum { DICOMDIR_DONE = 0, DICOMDIR_NO_ROOM = 1, DICOMDIR_ARGUMENTS = 2 };
 
-/* What a call tells beside its outputs. Whatever does not apply is 0. */
+/* What a call answers beside its outputs. Whatever does not apply is 0. */
 struct dicomdir_answer {
     uint64_t text;   /* how many bytes of text there are */
     uint64_t rows;   /* how many rows; of a merge, images; of the front, values; of findings, files */
@@ -80,7 +80,7 @@ enum {
 struct dicomdir_finding {
     uint32_t kind;   /* DICOMDIR_NOTHING to DICOMDIR_NODIGEST. DICOMDIR_NOT_READ is the finding UNREADABLE, and
                         DICOMDIR_NOT_DICOM is MISLABELLED by the fault 31 */
-    uint32_t tag;    /* of DICOMDIR_MISLABELLED the tag; of DICOMDIR_NOT_DICOM that of the faults 23 and 24, else 0 */
+    uint32_t tag;    /* of DICOMDIR_MISLABELLED the tag; of DICOMDIR_NOT_DICOM the tag of the faults 23 and 24; else 0 */
     uint32_t within; /* of DICOMDIR_NOT_DICOM: 21 to 27 */
     uint32_t cause;  /* of DICOMDIR_NOT_DICOM: 1 to 10, or 0 */
 };
@@ -91,7 +91,7 @@ uint32_t dicomdir_interface(void);
 /* Lists the records: gives the text that `dicomdir list` prints.
  *
  * bytes   a DICOMDIR of any producer
- * out     room for the text; answer->text bytes are wanted
+ * out     room for the text: answer->text bytes
  *
  * 0, 1, 51 to 58, 91. */
 uint32_t dicomdir_list(const uint8_t *bytes, size_t bytes_len, uint8_t *out, size_t out_len,
@@ -127,7 +127,7 @@ uint32_t dicomdir_front(const uint8_t *bytes, size_t bytes_len, uint64_t *ends, 
  *
  * bytes     the DICOMDIR
  * files     the files, each by the number of its record
- * contents  what is given of them, one behind the other
+ * contents  what is given of them, one after the other
  * keys      other than 0: compares identifiers too, of files that are given whole (`check --keys`)
  * strict    other than 0: finds records without a digest (`check --strict`)
  * findings  room for as many findings as files, which is answer->rows: findings[i] is of files[i]
@@ -148,10 +148,10 @@ uint32_t dicomdir_findings(const uint8_t *bytes, size_t bytes_len, const struct 
 uint32_t dicomdir_of_image(const uint8_t *bytes, size_t bytes_len, uint8_t *out, size_t out_len,
                            struct dicomdir_answer *answer);
 
-/* Gives the directory of the images of several directories that this library or the program made: the one that
- * `dicomdir merge` makes, and of directories of one image each the one that `dicomdir index` makes.
+/* Gives the directory of the images of several directories that this library or the program made. It is the one that
+ * `dicomdir merge` makes. Of directories of one image each it is the one that `dicomdir index` makes.
  *
- * bytes      the directories, one behind the other
+ * bytes      the directories, one after the other
  * ends       where each of them ends
  * id         the File-set ID, up to 16 characters of A to Z, 0 to 9 and _; empty for none
  * uid        the UID of the file-set; empty for the one that follows from the directory
@@ -161,8 +161,8 @@ uint32_t dicomdir_of_image(const uint8_t *bytes, size_t bytes_len, uint8_t *out,
  * file_ends  room for answer->rows numbers: where the File ID of that file ends in `files`, as ends in dicomdir_rows
  * files      room for answer->files bytes: the File IDs in those directories, their parts divided by a backslash
  *
- * 0; 1; 2 where ends do not rise, or pass `bytes`; 72 for `id`, 71 for `uid`; 51 to 65, where answer->source is the
- * number of the directory; 41 to 43; 91. */
+ * 0; 1; 2 where ends do not rise, or pass `bytes`; 72 for `id`, 71 for `uid`; 41 to 43; 51 to 65; 91. With 51 to 65
+ * answer->source is the number of the directory. */
 uint32_t dicomdir_merge(const uint8_t *bytes, size_t bytes_len, const uint64_t *ends, size_t ends_len,
                         const uint8_t *id, size_t id_len, const uint8_t *uid, size_t uid_len, uint8_t *out,
                         size_t out_len, uint64_t *sets, size_t sets_len, uint64_t *file_ends, size_t file_ends_len,
@@ -171,7 +171,7 @@ uint32_t dicomdir_merge(const uint8_t *bytes, size_t bytes_len, const uint64_t *
 /* Gives the directory of the images of one directory without some, which it names as withdrawn for good: the one that
  * `dicomdir withdraw` makes.
  *
- * uids      the SOP Instance UIDs to withdraw, one behind the other
+ * uids      the SOP Instance UIDs to withdraw, one after the other
  * uid_ends  where each of them ends
  *
  * All else is as in dicomdir_merge; each of `sets` is 0.

@@ -37,7 +37,7 @@ struct dicomdir_made {
     uint8_t *files;
 };
 
-/* Room for so many items, which is never NULL but where memory is wanting. */
+/* Room for this many items; NULL only where an allocation is refused. */
 static inline void *dicomdir_room(uint64_t items, size_t size) {
     if (items > (SIZE_MAX - 1) / size) return NULL;
     return malloc((size_t)items * size + 1);

@@ -33,7 +33,7 @@ def packaged_images():
 
 
 def directories(made):
-    """DICOMDIRs of several producers: the example, those of the folder, and pydicom's, some out of form."""
+    """DICOMDIRs of several producers: the example, all of the folder, and pydicom's, some out of form."""
     found = [TOP / "examples/ct1.DICOMDIR", *sorted(made.glob("*/DICOMDIR"))]
     found += sorted(path for path in (PACKAGED / "dicomdirtests").glob("DICOMDIR*"))
     return [path.read_bytes() for path in found]

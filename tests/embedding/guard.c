@@ -115,7 +115,7 @@ static void fail(const struct function *f, const char *what, uint32_t status) {
     exit(1);
 }
 
-/* Rooms of so many items, each filled. */
+/* Rooms of this many items, each filled. */
 static struct rooms rooms_of(const struct function *f, const size_t *items) {
     struct rooms made = {{0}, {0}};
     for (int output = 0; output < OUTPUTS; output++) {
@@ -146,7 +146,7 @@ static int are_same(const struct function *f, const struct rooms *one, const str
     return 1;
 }
 
-/* With each output one item short nothing is written, and the same sizes are wanted. */
+/* With each output one item short nothing is written, and the same sizes are answered. */
 static void try_short(const struct function *f, const size_t *items) {
     for (int output = 0; output < OUTPUTS; output++) {
         size_t less[OUTPUTS], again[OUTPUTS] = {0};

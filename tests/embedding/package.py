@@ -155,7 +155,7 @@ import dicomdir
 def calls():
     """What the library answers never leads beyond its room."""
     class Answers:
-        """A library that answers what it is told to."""
+        """A library that gives the answers that it is made with."""
         def __init__(self, status, size):
             self.status, self.size = status, size
 

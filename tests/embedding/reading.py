@@ -42,7 +42,7 @@ def lines_of(disc):
 
 
 def agrees(data, wanted, errors):
-    """Whether all answers of the library are those of the program, and what was met."""
+    """What was met, and whether the library answers what the program does."""
     answers = [asked(function, data) for function in (dicomdir.listing, dicomdir.FileSet, _bytes.front)]
     if errors:
         said = fault_of(errors)

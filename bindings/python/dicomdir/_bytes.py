@@ -24,7 +24,7 @@ def _asked(name: str, inputs: Sequence[Input], rooms: Sequence[Room], sizes: Cal
 
 
 def _ended(texts: Iterable[bytes]) -> Tuple[bytes, "array[int]"]:
-    """Texts one behind the other, and where each ends."""
+    """Texts one after the other, and where each ends."""
     ends: "array[int]" = array("Q")
     size, all_texts = 0, list(texts)
     for text in all_texts:

@@ -11,13 +11,13 @@ from ._library import library
 
 
 class Answer(ctypes.Structure):
-    """What every call tells beside its outputs: struct dicomdir_answer of dicomdir.h."""
+    """What every call answers beside its outputs: struct dicomdir_answer of dicomdir.h."""
     _fields_ = [(name, ctypes.c_uint64) for name in ("text", "rows", "files", "source")] + [
         (name, ctypes.c_uint32) for name in ("fault", "within", "cause", "at", "tag")]
 
 
 class Room(NamedTuple):
-    """Room for an output: items of so many numbers of a kind of array ('B', 'I' or 'Q')."""
+    """Room for an output: items, each of this many numbers of a kind of array ('B', 'I' or 'Q')."""
     kind: str
     numbers: int
     items: int

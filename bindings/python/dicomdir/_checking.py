@@ -9,7 +9,7 @@ from ._opening import open_below, parts_of, pieces, read_whole
 
 # No file of a file-set is longer.
 _LONGEST = 2 ** 32 - 1
-# The library reads the directory anew for each call, so a call gets files of so many bytes.
+# The library reads the directory anew for each call, so a call gets files of this many bytes.
 _BATCH = 64 << 20
 
 

@@ -19,9 +19,9 @@ _ARGUMENTS = "arguments at fault"
 class Fault(ValueError):
     """A refusal, in the words of the program, such as '51 File 27 Set 1 Truncated'.
 
-    `status` is its number, `within` and `cause` those of its causes, `at` the offset of a record, `tag` a tag as
-    0x00100020, and `source` the number of the input at fault, each 0 where it does not apply. `path` is the file or
-    folder that it concerns, if any.
+    `status` is its number, `within` and `cause` are the numbers of its causes. `at` is the offset of a record, `tag` a
+    tag as 0x00100020, and `source` the number of the input at fault. Each is 0 where it does not apply. `path` is the
+    file or folder that it concerns, if any.
     """
 
     def __init__(self, status: int, answer: Any = None, path: Optional[str] = None) -> None:

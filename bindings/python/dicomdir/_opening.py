@@ -1,4 +1,4 @@
-"""Opens files of a file-set as `dicomdir` does: under each name that systems show of them on a disc, and through no
+"""Opens files of a file-set as `dicomdir` does: under each name that systems show of them on a disc. It follows no
 link below the folder."""
 import errno
 import os
@@ -89,7 +89,7 @@ def read_whole(opened: int, path: str) -> bytes:
 
 
 def read_source(path: str) -> bytes:
-    """All bytes of a file: 92 Absent or 93 Unread where there are none."""
+    """All bytes of a file: 92 Absent where it can't be opened, 93 Unread where a read fails."""
     try:
         opened = open_source(path)
     except (OSError, ValueError) as error:
@@ -98,7 +98,7 @@ def read_source(path: str) -> bytes:
 
 
 def read_member(folder: str, parts: Sequence[str]) -> bytes:
-    """All bytes of a file of a file-set: 92 Absent or 93 Unread where there are none."""
+    """All bytes of a file of a file-set: 92 Absent where it can't be opened, 93 Unread where a read fails."""
     path = os.path.join(folder, *parts)
     try:
         opened = open_below(folder, parts)

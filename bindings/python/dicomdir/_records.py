@@ -143,7 +143,8 @@ class Record:
         return os.path.join(self.fileset.path or "", "/".join(parts)) if parts else None
 
     def read(self) -> bytes:
-        """The bytes of its file, also where a system shows it under another name: else 92 Absent or 93 Unread."""
+        """The bytes of its file, also where a system shows it under another name. 92 Absent where it can't be opened, 93
+        Unread where a read fails."""
         parts = parts_of(self.raw(_FILE)) if self.path else None
         if parts is None:
             raise Fault(92, path=self.path)
@@ -338,8 +339,8 @@ def _words(found: _bytes.Found) -> str:
 def read(source: Union[str, "os.PathLike[str]", Data]) -> FileSet:
     """The file-set of a folder, of a DICOMDIR, or of the bytes of one.
 
-    Raises Fault: 92 Absent and 93 Unread where there is no such file, 51 to 58 where the offsets of its records can't
-    be followed.
+    Raises Fault: 92 Absent where it can't be opened, 93 Unread where a read fails, and 51 to 58 where the offsets of
+    its records can't be followed.
     """
     if isinstance(source, (bytes, bytearray, memoryview)):
         return FileSet(source)

@@ -17,7 +17,7 @@ _warned: Set[bytes] = set()
 
 
 def text_of(value: bytes, charset: bytes) -> Optional[str]:
-    """A value as text, and None where there is none."""
+    """A value as text: None where there is no value."""
     if not value:
         return None
     if value.isascii() and b"\x1b" not in value:

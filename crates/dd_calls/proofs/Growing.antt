@@ -112,7 +112,7 @@ rows_each level (t ∷ trees) = ap (λ (xs : List Leveled). tree_rows level t ++
 below_is : (t : Tree) → (tree_view t).below ≡ trees_view (out-Tree t).below.items
 below_is t = search (rules, the_lemmas)
 
--- those of the first trees were added
+-- the records of the first trees were added
 abbrev pub Went : List ℕ → ℕ → List Tree → ℕ → Table → Table → Type 0
 Went tags level trees i old new = Adds tags (flat_map (tree_rows level) (take i trees)) old new
 

@@ -39,7 +39,7 @@ standings_each nodes (t ∷ trees) =
 below_is : (t : Tree) → (tree_view t).below ≡ trees_view (out-Tree t).below.items
 below_is t = search (rules, the_lemmas)
 
--- those of the first trees were added
+-- the records of the first trees were added
 abbrev pub Went : List Node → List Tree → ℕ → List StandingValue → List StandingValue → Type 0
 Went nodes trees i old new = Added (flat_map (tree_standings nodes) (take i trees)) old new
 

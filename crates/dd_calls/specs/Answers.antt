@@ -30,7 +30,7 @@ pub record IsLonger (bytes : List ℕ) (room : ℕ) (answer : Answer) : Type 0 w
   pub longer : room < length text
   pub size : answer ≡ sized (length text) 0 0
 
--- memory was wanting, or the bytes have no walk for this reason
+-- an allocation was refused, or the bytes have no walk for this reason
 pub record IsRefused (bytes : List ℕ) (status : ℕ) (answer : Answer) : Type 0 where
   pub fault : DirFault
   pub why : SaysMemory fault ⊎ Refuses bytes fault

@@ -1,4 +1,4 @@
--- What a directory says beside its records (PS3.3 sections F.3.2.1 and C.12.1).
+-- The values of a directory beside its records (PS3.3 sections F.3.2.1 and C.12.1).
 use Rattle.std.specs.Prelude.{◌≡◌, ℕ, ◌<◌, ◌≤◌, ◌⊎◌, List, [], ◌∷◌, length, unwrap_or}
 use Rattle.dd_dir.specs.Reading.{IsWalk}
 use Rattle.dd_dir.specs.Trees.{Walk}
@@ -11,7 +11,7 @@ use Rattle.dd_calls.specs.Texts.{AreTexts}
 abbrev pub values_beside : Walk → List (List ℕ)
 values_beside walk = walk.beside.id ∷ walk.beside.uid ∷ unwrap_or walk.beside.withdrawn [] ∷ []
 
--- the directory in the bytes says these values beside its records, and so many items are not reached
+-- the directory in the bytes has these values beside its records, and this number of items that no offset reaches
 pub record SaysBeside (bytes : List ℕ) (values : Texts) (unreached : ℕ) : Type 0 where
   pub walk : Walk
   pub is_walk : IsWalk bytes walk

@@ -9,7 +9,7 @@ use Rattle.dd_dir.specs.declared.fault.DirFault.{DirFault}
 use Rattle.dd_dir.specs.declared.fault.DirFault.TheVariants as faults
 use Rattle.dd_calls.specs.declared.answer.Answer.{Answer}
 
--- that of a data set
+-- the number of the fault of a data set
 abbrev pub set_cause : SetFault → ℕ
 set_cause set_faults.Truncated = 1
 set_cause set_faults.Order = 2
@@ -23,7 +23,7 @@ set_cause set_faults.Overrun = 9
 set_cause set_faults.TooDeep = 10
 set_cause set_faults.Memory = 91
 
--- that of a file, which is 91 where memory was wanting
+-- the number of the fault of a file, which is 91 where an allocation was refused
 abbrev pub file_fault_of : FileFault → ℕ
 file_fault_of (file_faults.Meta set_faults.Memory) = 91
 file_fault_of (file_faults.Set set_faults.Memory) = 91

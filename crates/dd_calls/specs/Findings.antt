@@ -50,7 +50,7 @@ found_there comparison form bytes (Some standing) =
 
 -- ---- as rows
 
--- a finding as a row: its number, and the tag of a value that is not the one of the records, or why the file is none
+-- a finding as a row: its number, the tag at fault, and the numbers that say why a file is no DICOM file
 abbrev pub row_by : ℕ → ℕ → ℕ → ℕ → FindingRow
 row_by kind tag within cause = record { kind = kind; tag = tag; within = within; cause = cause }
 
@@ -81,8 +81,8 @@ module _ (comparison : Comparison) (records : List Standing) (contents : List �
       (found_there comparison file.given (slice_range contents start file.end) (slice_get records file.row))
       else None
 
-  -- the row of each of these files, where each can be judged: what is given of the first begins at this place, and what
-  -- is given of each other one where that of the one before it ends
+  -- The row of each of these files, where each can be judged. What is given of the first begins at this place. What is
+  -- given of the next begins where that of the first ends, and so on.
   abbrev pub rows_from : ℕ → List GivenFile → Option (List FindingRow)
   rows_from start [] = Some []
   rows_from start (file ∷ files) = before (row_from start file) (rows_from file.end files)

@@ -77,7 +77,7 @@ Adds tags records old new = AddsRows (map row_view records) (values_of tags reco
 
 -- ---- the table of a directory
 
--- the table is that of the records of the walk of the bytes, and of their values at these tags
+-- the table has a row for each record of the walk of the bytes, and the values of each at these tags
 pub record IsTable (bytes tags : List ℕ) (table : Table) : Type 0 where
   pub walk : Walk
   pub is_walk : IsWalk bytes walk

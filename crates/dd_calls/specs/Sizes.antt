@@ -1,4 +1,4 @@
--- How much a call answers, and the room that it lies in.
+-- The sizes of an answer, and the room that it lies in.
 use Rattle.std.specs.Prelude.{ℕ, List, ◌++◌, length, drop}
 use Rattle.dd_calls.specs.declared.answer.Answer.{Answer}
 
@@ -6,7 +6,7 @@ use Rattle.dd_calls.specs.declared.answer.Answer.{Answer}
 abbrev pub over : {A : Type 0} → List A → List A → List A
 over given old = given ++ drop (length given) old
 
--- the answer of a call that gives so many bytes of text, rows and bytes of File IDs
+-- the answer of a call that gives this many bytes of text, rows and bytes of File IDs
 abbrev pub sized : ℕ → ℕ → ℕ → Answer
 sized text rows files = record {
   text = text;

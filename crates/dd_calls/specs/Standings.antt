@@ -7,7 +7,7 @@ use Rattle.dd_report.specs.Agreements.{Standing, nearest}
 use Rattle.dd_calls.specs.declared.standing.Inherited.{Inherited}
 use Rattle.dd_calls.specs.declared.standing.Standing.{Standing as StandingValue}
 
--- each value is that of the nearest of these records that has the element
+-- each value is from the nearest of these records that has the element
 pub record Inherits (inherited : Inherited) (nodes : List Node) : Type 0 where
   pub patient_id : inherited.patient_id.now ≡ nearest (tag 0x0010 0x0020) nodes
   pub study : inherited.study.now ≡ nearest (tag 0x0020 0x000d) nodes

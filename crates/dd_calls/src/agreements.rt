@@ -12,10 +12,10 @@ ghost use Rattle.dd_report.specs.Agreements.{agree, agreement, agreements, first
 ghost use Rattle.dd_report.specs.Agreements.{Standing as Record, syntax_agreement};
 ghost use Rattle.dd_calls.specs.Standings.{seen_by, standing_view};
 
-use crate::standing::{Standing, value_in};
+use crate::standing::Standing;
+use crate::values::value_in;
 use dd_dir::digest_in;
 use dd_elem::{Memory, Tag, Uid, tags};
-use dd_keys::value_at;
 use dd_layout::table::{CLASS, INSTANCE, TRANSFER};
 use dd_part10::{self, DicomFile, FileFault, parse_file};
 use dd_report::Finding;
@@ -84,8 +84,8 @@ fn agreements(standing: &Standing<'_, '_>, file: &DicomFile<'_>) -> [Agreement; 
         → result ≡ agreements entry (file_view file.now) }
 {
     let (meta, set) = (&file.meta, &file.set);
-    let class = value_in(standing.tree, CLASS.tag);
-    let instance = value_in(standing.tree, INSTANCE.tag);
+    let class = value_in(&standing.tree.set, CLASS.tag);
+    let instance = value_in(&standing.tree.set, INSTANCE.tag);
     let is_own = digest_in(&standing.tree.set).is_some();
     let inherited = standing.inherited;
     [
@@ -110,24 +110,14 @@ fn syntax_agreement(standing: &Standing<'_, '_>, transfer: &Uid) -> Agreement
     ensures { (entry : Record) → standing_view standing.now ≡ seen_by entry
         → result ≡ syntax_agreement entry transfer.now }
 {
-    let recorded = value_in(standing.tree, TRANSFER.tag);
+    let recorded = value_in(&standing.tree.set, TRANSFER.tag);
     uid_agreement(dd_part10::TRANSFER, transfer, recorded)
 }
 
 fn value_agreement(set: &DataSet<'_>, tag: Tag, recorded: &[u8]) -> Agreement
     ensures { result ≡ agreement tag (key_of tag (set_view set.now)) recorded.now }
 {
-    (tag, agree(key_of(set, tag), recorded))
-}
-
-/// Gives the value without its padding: no bytes where there is no value, or items.
-fn key_of<'a>(set: &DataSet<'a>, tag: Tag) -> &'a [u8]
-    ensures { result.now ≡ key_of tag (set_view set.now) }
-{
-    match value_at(set, tag) {
-        Some(value) => value,
-        None => &[],
-    }
+    (tag, agree(value_in(set, tag), recorded))
 }
 
 fn patient_agreement(set: &DataSet<'_>, is_own: bool, recorded: &[u8]) -> Agreement
@@ -135,7 +125,7 @@ fn patient_agreement(set: &DataSet<'_>, is_own: bool, recorded: &[u8]) -> Agreem
         (patient_id is_own (key_of (tag 0x0010 0x0020) (set_view set.now)))
         (patient_id is_own recorded.now) }
 {
-    let in_file = or_no_id(key_of(set, tags::PATIENT_ID), is_own);
+    let in_file = or_no_id(value_in(set, tags::PATIENT_ID), is_own);
     (tags::PATIENT_ID, agree(in_file, or_no_id(recorded, is_own)))
 }
 

@@ -15,11 +15,10 @@ pub const DONE: u32 = 0;
 /// The status of a call whose answer is longer than the room for it.
 pub const ROOM: u32 = 1;
 
-/// The status of a call whose arguments are at fault: bytes that are to be cut where they can't be, or a number of no
-/// record.
+/// The status of a call whose arguments are at fault: bytes that can't be cut at the ends given, or a number of no record.
 pub const ARGUMENTS: u32 = 2;
 
-/// The status of a call that wanted memory and got none: 91 Memory.
+/// The status of a call of which an allocation was refused: 91 Memory.
 pub const MEMORY: u32 = 91;
 
 /// What a call answers beside its bytes.
@@ -47,7 +46,7 @@ pub struct Answer {
 }
 
 impl Answer {
-    /// Makes the answer of a call that gives so many bytes of text, rows and bytes of File IDs.
+    /// Makes the answer of a call that gives this many bytes of text, rows and bytes of File IDs.
     pub fn sized(text: u64, rows: u64, files: u64) -> Answer
         ensures { result ≡ sized text rows files }
     {

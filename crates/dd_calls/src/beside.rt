@@ -1,4 +1,4 @@
-//! What a directory of any producer says beside its records.
+//! The values of a directory of any producer beside its records.
 
 ghost use Rattle.std.specs.Prelude.{◌≡◌, ◌≢◌, ◌⊎◌, ◌≤◌, ◌<◌, ◌∷◌, [], IfOk, IfErr, length, option_map, unwrap_or};
 ghost use Rattle.dd_dir.specs.ReadAnswers.{SaysMemory};
@@ -13,17 +13,17 @@ use crate::texts::Texts;
 use dd_dir::{DirFault, read_directory};
 use std::alloc::{AllocError, Global};
 
-/// What a directory says beside its records.
+/// Holds the values of a directory beside its records.
 #[derive(Drop)]
 struct FrontValues {
     values: Texts,
     unreached: u64,
 }
 
-/// Gives three values to the fronts of `text` and `ends`: the File-set ID and the UID of the directory in `bytes`
-/// (PS3.3 section F.3.2.1), and the value that names its withdrawn SOP Instance UIDs, with `\` between them. Gives
-/// `unreached` how many of its items no offset reaches, and answers 0. The values stand in `text` one behind the
-/// other, without their padding, and `ends` has where each of them ends. One that the directory lacks has no bytes.
+/// Gives three values of the directory in `bytes` to the fronts of `text` and `ends`. These are its File-set ID, its
+/// UID (PS3.3 section F.3.2.1), and its withdrawn SOP Instance UIDs, with `\` between them. Gives `unreached` how many
+/// of its items no offset reaches, and answers 0. The values stand in `text` one after the other, without their
+/// padding, and `ends` has where each of them ends. One that the directory lacks has no bytes.
 ///
 /// Else nothing of them is changed, and the status is 1 where `ends` or `text` is too short, or the number of the
 /// fault of `read_directory`. `answer` has how many values there are, as rows, and how long the text is, or where the
@@ -112,10 +112,9 @@ fn give_front(
 {
     let values = &front.values;
     *answer = Answer::sized(values.text.len() as u64, values.ends.len() as u64, 0);
-    if !values.fits(text.len(), ends.len()) {
+    if !values.give(text, ends) {
         return ROOM;
     }
-    values.give(text, ends);
     *unreached = front.unreached;
     DONE
 }

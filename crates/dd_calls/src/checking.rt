@@ -21,7 +21,7 @@ use dd_report::Comparison;
 use std::alloc::Global;
 
 /// Gives what a check by this comparison finds of each of these files to the front of `findings`, and answers 0. The
-/// records of the files stand in the directory `bytes`. What is given of each stands in `contents`, one behind the
+/// records of the files stand in the directory `bytes`. What is given of each stands in `contents`, one after the
 /// other. A file of which the digest alone is given is judged by its digest alone.
 ///
 /// Else nothing of `findings` is changed, and the status is:

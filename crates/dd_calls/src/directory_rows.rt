@@ -12,9 +12,9 @@ use crate::table::{Row, Table, add_trees};
 use dd_dir::{DirFault, read_directory};
 use std::alloc::Global;
 
-/// Gives a row for each record of the directory in `bytes`, depth first, and for each of them the values that it has
-/// at these tags, to the front of `rows`, `ends` and `text`, and answers 0. The values stand in `text` one behind the
-/// other, without their padding, and `ends` has where each of them ends (PS3.3 section F.3.2.2).
+/// Gives a row for each record of the directory in `bytes` (PS3.3 section F.3.2.2), depth first, to the front of
+/// `rows`. Gives the values of each at these tags to the fronts of `text` and `ends`, and answers 0. The values stand
+/// in `text` one after the other, without their padding, and `ends` has where each of them ends.
 ///
 /// Else nothing of them is changed, and the status is 1 where one of the three is too short, or the number of the
 /// fault of `read_directory`. `answer` has how many rows there are and how long the text is, or where the fault is.
@@ -79,10 +79,9 @@ fn give_table(
     ensures size { answer.new ≡ sized (length table.now.values.text.items) (length table.now.rows.items) 0 }
 {
     *answer = Answer::sized(table.values.text.len() as u64, table.rows.len() as u64, 0);
-    if table.rows.len() > rows.len() || !table.values.fits(text.len(), ends.len()) {
+    if table.rows.len() > rows.len() || !table.values.give(text, ends) {
         return ROOM;
     }
     rows[..table.rows.len()].copy_from_slice(&table.rows);
-    table.values.give(text, ends);
     DONE
 }

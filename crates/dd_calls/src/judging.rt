@@ -10,7 +10,8 @@ ghost use Rattle.dd_calls.specs.Standings.{seen_by, standing_view};
 
 use crate::agreements::mislabelled;
 use crate::finding_row::FindingRow;
-use crate::standing::{Standing, value_in};
+use crate::standing::Standing;
+use crate::values::value_in;
 use dd_dir::{Tree, digest_in};
 use dd_elem::{Memory, is_file_id};
 use dd_layout::Level;
@@ -119,7 +120,7 @@ fn is_image(tree: &Tree<'_>) -> bool
 fn unless_misnamed(tree: &Tree<'_>, found: Option<Finding>) -> Option<Finding>
     ensures { result ≡ unless_misnamed (tree_view tree.now).node found }
 {
-    let id = value_in(tree, FILE.tag);
+    let id = value_in(&tree.set, FILE.tag);
     if !tree.in_use || id.is_empty() {
         return None;
     }

@@ -16,6 +16,7 @@ mod listing;
 mod standing;
 mod table;
 mod texts;
+mod values;
 
 pub use answer::{ARGUMENTS, Answer, DONE, MEMORY, ROOM, file_cause, file_tag, file_within};
 pub use beside::front;

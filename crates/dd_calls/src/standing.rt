@@ -3,14 +3,13 @@
 ghost use Rattle.std.specs.Prelude.{◌≡◌, ◌++◌, ◌∷◌, [], List, OnOk, IfOk, map};
 ghost use Rattle.dd_layout.specs.ElementForms.{tag};
 ghost use Rattle.dd_dir.specs.ForestViews.{tree_view, trees_view};
-ghost use Rattle.dd_dir.specs.Saying.{key_of};
 ghost use Rattle.dd_dir.specs.Trees.{Node};
 ghost use Rattle.dd_report.specs.Agreements.{branch_standings, nearest, standings_below};
 ghost use Rattle.dd_calls.specs.Standings.{Inherits, seen_by, standing_view};
 
+use crate::values::value_in;
 use dd_dir::Tree;
 use dd_elem::{Tag, tags};
-use dd_keys::value_at;
 use std::alloc::{AllocError, Global};
 
 /// The values in a record and those above it: each as the nearest record has it that has the element, else no bytes.
@@ -47,25 +46,15 @@ impl<'t> Inherited<'t> {
     }
 }
 
-/// Gives the value that the record has, where it has the element, and else that of those above.
+/// Gives the value of the record where it has the element, else the value from above.
 fn nearest<'t>(tree: &Tree<'t>, tag: Tag, above: &'t [u8]) -> &'t [u8]
     ensures { (nodes : List Node) → above.now ≡ nearest tag nodes
         → result.now ≡ nearest tag ((tree_view tree.now).node ∷ nodes) }
 {
     if tree.set.find(tag).is_some() {
-        value_in(tree, tag)
+        value_in(&tree.set, tag)
     } else {
         above
-    }
-}
-
-/// Gives the value without its padding: no bytes where the record has no value there, or items.
-pub(crate) fn value_in<'t>(tree: &Tree<'t>, tag: Tag) -> &'t [u8]
-    ensures { result.now ≡ key_of tag (tree_view tree.now).node.set }
-{
-    match value_at(&tree.set, tag) {
-        Some(value) => value,
-        None => &[],
     }
 }
 

@@ -7,9 +7,9 @@ ghost use Rattle.dd_calls.specs.Rows.{Adds, AddsRows, branch_rows, kind_number, 
 ghost use Rattle.dd_calls.specs.Rows.{values_at};
 
 use crate::texts::Texts;
+use crate::values::value_in;
 use dd_dir::Tree;
 use dd_elem::Tag;
-use dd_keys::value_at;
 use dd_layout::Level;
 use std::alloc::{AllocError, Global};
 
@@ -27,7 +27,7 @@ pub struct Row {
     pub in_use: u32,
 }
 
-/// Holds rows, and for each of them the values that are wanted.
+/// Holds rows, and for each of them its values at the tags that are asked for.
 #[derive(Drop)]
 pub(crate) struct Table {
     pub(crate) rows: Vec<Row>,
@@ -131,10 +131,7 @@ fn kind_number(kind: &[u8]) -> u32
 fn value_of<'t>(tree: &Tree<'t>, tag: u32) -> &'t [u8]
     ensures { result.now ≡ key_of (tag_of tag) (tree_view tree.now).node.set }
 {
-    match value_at(&tree.set, tag_of(tag)) {
-        Some(value) => value,
-        None => &[],
-    }
+    value_in(&tree.set, tag_of(tag))
 }
 
 /// Makes the tag of this number, which has the group in its upper 16 bits.

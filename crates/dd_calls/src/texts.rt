@@ -1,12 +1,12 @@
-//! Texts one behind the other.
+//! Texts one after the other.
 
-ghost use Rattle.std.specs.Prelude.{◌≡◌, ◌≤◌, ◌∷◌, ◌↔◌, [], IfOk, IsTrue, OnOk, length, map};
+ghost use Rattle.std.specs.Prelude.{◌≡◌, ◌≤◌, ◌<◌, ◌⊎◌, ◌∷◌, [], IfOk, IsFalse, IsTrue, OnOk, length, map};
 ghost use Rattle.dd_calls.specs.Sizes.{over};
 ghost use Rattle.dd_calls.specs.Texts.{AreTexts, Puts};
 
 use std::alloc::{AllocError, Global};
 
-/// Holds texts one behind the other, and where each of them ends.
+/// Holds texts one after the other, and where each of them ends.
 #[derive(Drop)]
 pub struct Texts {
     pub text: Vec<u8>,
@@ -37,7 +37,7 @@ impl Texts {
         Ok(joined)
     }
 
-    /// Puts a text behind the others.
+    /// Puts a text after the others.
     pub fn put(&mut self, text: &[u8]) -> Result<(), AllocError>
         ensures { OnOk result (Puts (text.now ∷ []) self.old self.new) }
     {
@@ -46,21 +46,22 @@ impl Texts {
         Ok(())
     }
 
-    /// Says whether both parts fit into rooms of these lengths.
-    pub fn fits(&self, text: usize, ends: usize) -> bool
-        ensures { IsTrue result ↔ ((length self.now.text.items ≤ text) × (length self.now.ends.items ≤ ends)) }
+    /// Gives both parts to the fronts of these, where each fits. Else gives false, and nothing of them is changed.
+    pub fn give(&self, text: &mut [u8], ends: &mut [u64]) -> bool
+        ensures text { IsTrue result → text.new ≡ over self.now.text.items text.old }
+        ensures ends { IsTrue result → ends.new ≡ over self.now.ends.items ends.old }
+        ensures fit_text { IsTrue result → length self.now.text.items ≤ length text.old }
+        ensures fit_ends { IsTrue result → length self.now.ends.items ≤ length ends.old }
+        ensures longer { IsFalse result → (length ends.old < length self.now.ends.items)
+            ⊎ (length text.old < length self.now.text.items) }
+        ensures same_text { IsFalse result → text.new ≡ text.old }
+        ensures same_ends { IsFalse result → ends.new ≡ ends.old }
     {
-        self.text.len() <= text && self.ends.len() <= ends
-    }
-
-    /// Gives both parts to the fronts of these.
-    pub fn give(&self, text: &mut [u8], ends: &mut [u64])
-        requires text { length self.now.text.items ≤ length text.old }
-        requires ends { length self.now.ends.items ≤ length ends.old }
-        ensures text { text.new ≡ over self.now.text.items text.old }
-        ensures ends { ends.new ≡ over self.now.ends.items ends.old }
-    {
+        if self.text.len() > text.len() || self.ends.len() > ends.len() {
+            return false;
+        }
         text[..self.text.len()].copy_from_slice(&self.text);
         ends[..self.ends.len()].copy_from_slice(&self.ends);
+        true
     }
 }

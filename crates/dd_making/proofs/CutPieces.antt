@@ -3,7 +3,7 @@ use Rattle.std.proofs.Common.{◌≡◌, ◌∙◌, ℕ, zero, suc, List, [], �
 use Rattle.std.proofs.Common.{sym, ap, ap₂, arith, subst}
 use Rattle.std.specs.Prelude.{◌≢◌, ◌⊎◌, slice_range}
 use Rattle.std.proofs.Common.{inl, inr}
-use Rattle.std.proofs.lemmas.List.{map-append, take_all, take_more}
+use Rattle.std.proofs.lemmas.List.{map-append, take_more}
 use Rattle.std.specs.Borrow.{Bor}
 use Rattle.dd_making.specs.Cuts.{AreEnds, cuts}
 
@@ -28,7 +28,7 @@ ends_more start bytes [] end are rises within = (rises, within, tt)
 ends_more start bytes (e ∷ ends) end are rises within =
     (are.0, are.1, ends_more e bytes ends end are.2 rises within)
 
--- the pieces so far are those of the first ends
+-- the pieces so far are the cuts at the first ends
 pub record AreCut (bytes ends : List ℕ) (i start : ℕ) (pieces : List (Bor (List ℕ))) : Type 0 where
   pub pieces_are : map (λ (piece : Bor (List ℕ)). piece.now) pieces ≡ cuts 0 bytes (take i ends)
   pub start_is : start ≡ last_end 0 (take i ends)

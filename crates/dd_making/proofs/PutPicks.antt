@@ -1,5 +1,5 @@
 -- The file of one pick more.
-use Rattle.std.proofs.Common.{◌≡◌, ◌∙◌, ℕ, List, [], ◌∷◌, ◌++◌, ◌+◌, ◌<◌, length, map, take, get_or, refl}
+use Rattle.std.proofs.Common.{◌≡◌, ◌∙◌, ℕ, List, [], ◌∷◌, ◌++◌, ◌+◌, ◌<◌, length, map, take, get_or}
 use Rattle.std.proofs.Common.{sym, ap, subst}
 use Rattle.std.proofs.lemmas.List.{map-append, take_more}
 use Rattle.dd_engine.specs.declared.merge.Pick.{Pick}
@@ -8,7 +8,7 @@ use Rattle.dd_calls.specs.Texts.{AreTexts, Puts}
 use Rattle.dd_calls.proofs.Growing.{are_then}
 use Rattle.dd_making.specs.Merges.{files_in, sets_in}
 
--- those of the first picks
+-- the files of the first picks
 pub record ArePut (picks : List Pick) (i : ℕ) (sets : List ℕ) (files : Texts) : Type 0 where
   pub sets_are : sets ≡ sets_in (take i picks)
   pub files_are : AreTexts (files_in (take i picks)) files

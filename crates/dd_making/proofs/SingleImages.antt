@@ -4,7 +4,7 @@ use Rattle.std.specs.Prelude.{Result, Ok, Err}
 use Rattle.std.specs.Ordering.{is_eq, is_lt}
 use Rattle.std.specs.declared.cmp.Ordering.{Ordering}
 use Rattle.std.proofs.Common.{refl, sym, ◌∙◌, ap, ap₂, subst, arith}
-use Rattle.std.proofs.lemmas.List.{append-nil, map-append}
+use Rattle.std.proofs.lemmas.List.{map-append}
 use Rattle.dd_elem.specs.Ordered.{bytes_cmp}
 use Rattle.dd_version.specs.Orders.{patient_cmp, series_cmp, study_cmp}
 use Rattle.dd_version.specs.declared.parts.Parts.{Parts}
@@ -42,7 +42,6 @@ use Rattle.dd_engine.specs.Indexing.{Answer, accepted, best_of_sources, versions
 use Rattle.dd_engine.specs.Merging.{AreOwn, IsFirst, IsForeign, IsOwn, Merges, SetListing, held_in, numbered, versions_in}
 use Rattle.dd_engine.specs.Merging.{withdrawn_in}
 use Rattle.dd_engine.specs.SameVersions.{AreSamePlans}
-use Rattle.dd_making.specs.Images.{IsOfVersion}
 use Rattle.dd_making.specs.Indexes.{AreOfSources, AreOfVersions, PlansAgree}
 
 -- ---- a version alone is in harmony

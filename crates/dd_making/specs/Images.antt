@@ -40,15 +40,15 @@ pub record IsLonger (bytes : List ℕ) (room : ℕ) (answer : Answer) : Type 0 w
   pub longer : room < length text
   pub size : answer ≡ sized (length text) 0 0
 
--- ---- the answer where there is none
+-- ---- the answer where no directory is given
 
--- memory was wanting, or the bytes have no version for this reason
+-- an allocation was refused, or the bytes have no version for this reason
 pub record HasNoVersion (bytes : List ℕ) (answer : Answer) : Type 0 where
   pub fault : KeyFault
   pub why : IsWantOfMemory SetWants bytes fault ⊎ (first_fault bytes ≡ Some fault)
   pub answers : answer ≡ key_refusal fault
 
--- memory was wanting, or the version has no directory for this reason
+-- an allocation was refused, or the version has no directory for this reason
 pub record IsNotLaidOut (version : Parts) (answer : Answer) : Type 0 where
   pub fault : PlanFault
   pub why : (fault ≡ Memory) ⊎ (derived_refusal [] no_limits (version ∷ []) [] ≡ Some fault)

@@ -1,6 +1,5 @@
 -- When a merge of the directories of single images plans what an index of the images plans.
 use Rattle.std.specs.Prelude.{◌≡◌, ℕ, List, [], ◌∷◌, Result, Ok, Err}
-use Rattle.dd_dir.specs.SaysItself.{SaysItself}
 use Rattle.dd_version.specs.declared.parts.Parts.{Parts}
 use Rattle.dd_engine.specs.declared.engine.Indexed.{Indexed}
 use Rattle.dd_engine.specs.declared.engine_fault.EngineFault.{EngineFault}
@@ -19,12 +18,12 @@ AreOfVersions [] (set ∷ sets) = ⊥
 AreOfVersions (version ∷ versions) [] = ⊥
 AreOfVersions (version ∷ versions) (set ∷ sets) = IsOfVersion version set × AreOfVersions versions sets
 
--- they are those of the sources that have a version
+-- they are the directories of the sources that have a version
 abbrev pub AreOfSources : List Answer → List (List ℕ) → Type 0
 AreOfSources answers sets = AreOfVersions (versions_of (accepted answers)) sets
 
--- an index and a merge have the same plan, and the bytes of one directory, or the same refusal of a plan, unless memory
--- ran out; the merge refuses no set
+-- An index and a merge have the same plan, and the bytes of one directory, or the same refusal of a plan, unless an
+-- allocation was refused. The merge refuses no set.
 abbrev pub PlansAgree : Result Indexed EngineFault → Result Merged MergeFault → Type 0
 PlansAgree indexed (Err (merge.Dir at fault)) = ⊥
 PlansAgree indexed (Err (merge.Own at fault)) = ⊥

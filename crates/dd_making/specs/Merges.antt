@@ -63,7 +63,7 @@ pub record IsMade (choice : Choice) (given sets : List (List ℕ)) (made : Made)
   pub merges : Merges choice no_limits given sets (Ok merged)
   pub is : IsMadeOf merged made
 
--- the fault of the merge, or memory was wanting for what was merged
+-- the fault of the merge, or an allocation was refused for what was merged
 pub record IsNotMade (choice : Choice) (given sets : List (List ℕ)) (answer : Answer) : Type 0 where
   pub fault : MergeFault
   pub why : Merges choice no_limits given sets (Err fault)
@@ -118,7 +118,7 @@ pub record LacksRoom (id uid : List ℕ) (given sets : List (List ℕ)) (old : R
 
 -- ---- why a call is refused
 
--- The bytes can't be cut at these ends, which is 2. Or memory was wanting for the pieces.
+-- The bytes can't be cut at these ends, which is 2. Or an allocation was refused for the pieces.
 abbrev pub AreNotCut : List ℕ → List ℕ → Answer → Type 0
 AreNotCut bytes ends answer = ((¬ AreEnds 0 bytes ends) × (answer ≡ by_number 2))
     ⊎ ((ends ≢ []) × (answer ≡ by_number 91))

@@ -29,7 +29,7 @@ of_input fault source = record (by_number fault) { source = source }
 abbrev pub of_record : ℕ → ℕ → ℕ → Answer
 of_record fault source at = record (of_input fault source) { at = at }
 
--- the number of the fault of an image file, which is 91 where memory was wanting
+-- the number of the fault of an image file, which is 91 where an allocation was refused
 abbrev pub no_file : FileFault → ℕ
 no_file (file_faults.Meta set_faults.Memory) = 91
 no_file (file_faults.Set set_faults.Memory) = 91

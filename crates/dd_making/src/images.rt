@@ -20,8 +20,8 @@ use std::alloc::Global;
 /// Gives the directory of the image file `bytes` to the front of `text`, with no File-set ID and under the UID that
 /// follows from what it says, and answers 0. That is what `dicomdir index` makes of this file alone.
 ///
-/// Else nothing of `text` is changed, and the status is 1 where the directory is longer than `text`, the number of the
-/// fault of `version_of`, or 91 where an allocation is refused.
+/// Else nothing of `text` is changed, and the status is 1 where the directory is longer than `text`. It is the number
+/// of the fault of `version_of`, or 91 where an allocation is refused.
 pub fn of_image(alloc: Global, bytes: &[u8], text: &mut [u8], answer: &mut Answer) -> u32
     ensures given { result ≡ 0 → IsGiven bytes.now text.old text.new answer.new }
     ensures longer { result ≡ 1 → IsLonger bytes.now (length text.old) answer.new }

@@ -60,15 +60,11 @@ impl Made {
     {
         let (bytes, count, names) = (self.text.len(), self.sets.len(), self.files.text.len());
         *answer = Answer::sized(bytes as u64, count as u64, names as u64);
-        if bytes > text.len()
-            || count > sets.len()
-            || !self.files.fits(files.len(), file_ends.len())
-        {
+        if bytes > text.len() || count > sets.len() || !self.files.give(files, file_ends) {
             return ROOM;
         }
         text[..bytes].copy_from_slice(&self.text);
         sets[..count].copy_from_slice(&self.sets);
-        self.files.give(files, file_ends);
         DONE
     }
 }

@@ -15,11 +15,10 @@ use dd_engine::{Choice, merge_engine};
 use dd_layout::Limits;
 use std::alloc::Global;
 
-/// Merges the directories that stand one behind the other in `bytes` and end at `ends`, under a label with this
-/// File-set ID, and with this UID or, where it is empty, the one that follows from the directory. Gives the directory
-/// of all their images to the front of `text`. For each image, in the order of its records, it gives the number of the
-/// set that has its file to `sets`, and the File ID there to `files`, which ends at the number in `file_ends`. It
-/// answers 0 then.
+/// Merges the directories that stand one after the other in `bytes` and end at `ends`. The label has this File-set ID,
+/// and this UID or, where it is empty, the one that follows from the directory. Gives the directory of all their images
+/// to the front of `text`. For each image, in the order of its records, it gives the number of the set that has its
+/// file to `sets`. It gives the File ID there to `files`, which ends at the number in `file_ends`. It answers 0 then.
 ///
 /// Else nothing of these is changed, and the status is, in this order:
 ///

@@ -37,7 +37,7 @@ pub(crate) fn key_refusal(fault: &KeyFault) -> Answer
     }
 }
 
-/// Numbers the fault of an image file: 91 where memory was wanting.
+/// Numbers the fault of an image file: 91 where an allocation was refused.
 fn no_file(fault: &FileFault) -> u32
     ensures number { result ≡ no_file fault.now }
     ensures fault { IsFault result }

@@ -20,7 +20,7 @@ use dd_engine::{Choice, withdraw_engine};
 use dd_layout::Limits;
 use std::alloc::Global;
 
-/// Withdraws instances from the directory in `bytes`: those whose SOP Instance UIDs stand one behind the other in
+/// Withdraws instances from the directory in `bytes`: those whose SOP Instance UIDs stand one after the other in
 /// `uids`, and end at `uid_ends`. It gives and answers what `merge` does, under the same label.
 ///
 /// Refused as `merge` is, where 2 speaks of `uid_ends` and `uids`. After that, and before the directory is looked at,
@@ -100,7 +100,7 @@ fn withdraw_texts(
     }
 }
 
-/// Reads each text as a UID. 71 names the first that is none; 91 where an allocation is refused.
+/// Reads each text as a UID. 71 names the first that is no UID; 91 where an allocation is refused.
 fn uids_of(alloc: Global, texts: &[&[u8]]) -> Result<Vec<Uid>, Answer>
     ensures uids { IfOk result (λ uids. uids.items ≡ map (λ text. text.now) texts.now) }
     ensures each { IsOk result → AllByRecursion IsUid (map (λ text. text.now) texts.now) }

@@ -1,7 +1,7 @@
 -- One piece more is cut, or its end is amiss.
 use Rattle.std.proofs.Common.{◌<◌, arith, inl, inr, length, refl, rules, slice_index_or}
 use Rattle.std.specs.Prelude.{◌⊎◌}
-use Rattle.dd_making.proofs.CutPieces.{cut_more, not_ends, some_ends}
+use Rattle.dd_making.proofs.CutPieces.{cut_more, not_ends}
 use Rattle.dd_making.proofs.cutting.pieces.Goals.{then-end-start-via-then-end-start, then-end-start-via-else-end-start+then-end-bytes}
 use Rattle.dd_making.proofs.cutting.pieces.Goals as goal
 

@@ -1,4 +1,4 @@
--- The plan is that of the version alone.
+-- The plan is made of the version alone.
 use Rattle.std.proofs.Common.{◌≡◌, ◌⊎◌, ◌∷◌, [], Err, Some, refl, subst, sym}
 use Rattle.std.specs.Prelude.{IfErr}
 use Rattle.std.proofs.lemmas.Result.{err_from_is_err_and}
