@@ -56,13 +56,14 @@ struct dicomdir_row {
 };
 
 /* What is given of the file of a record. */
-enum { DICOMDIR_ABSENT, DICOMDIR_UNREADABLE, DICOMDIR_WHOLE, DICOMDIR_DIGEST };
+enum { DICOMDIR_ABSENT, DICOMDIR_UNREADABLE, DICOMDIR_WHOLE, DICOMDIR_DIGEST, DICOMDIR_HEAD };
 
 struct dicomdir_file {
     uint64_t row;   /* the number of the record among the rows of dicomdir_rows, from 0 */
     uint64_t end;   /* where what is given of it ends in `contents`, and what is given of the next file begins */
     uint32_t given; /* DICOMDIR_ABSENT: it could not be opened. DICOMDIR_UNREADABLE: a read failed. DICOMDIR_WHOLE:
-                       all its bytes. DICOMDIR_DIGEST: the 32 bytes of its SHA-256 */
+                       all its bytes. DICOMDIR_DIGEST: the 32 bytes of its SHA-256. DICOMDIR_HEAD: these 32 bytes, and
+                       then its head */
 };
 
 /* What is found of a file: the findings of `dicomdir check` in docs/FAULTS.md. */
@@ -80,7 +81,7 @@ enum {
 struct dicomdir_finding {
     uint32_t kind;   /* DICOMDIR_NOTHING to DICOMDIR_NODIGEST. DICOMDIR_NOT_READ is the finding UNREADABLE, and
                         DICOMDIR_NOT_DICOM is MISLABELLED by the fault 31 */
-    uint32_t tag;    /* of DICOMDIR_MISLABELLED the tag; of DICOMDIR_NOT_DICOM the tag of the faults 23 and 24; else 0 */
+    uint32_t tag;    /* of DICOMDIR_MISLABELLED the tag; of DICOMDIR_NOT_DICOM the tag of faults 23 and 24; else 0 */
     uint32_t within; /* of DICOMDIR_NOT_DICOM: 21 to 27 */
     uint32_t cause;  /* of DICOMDIR_NOT_DICOM: 1 to 10, or 0 */
 };
@@ -125,15 +126,19 @@ uint32_t dicomdir_front(const uint8_t *bytes, size_t bytes_len, uint64_t *ends, 
 
 /* Finds what `dicomdir check` would find of files, where the caller has read these.
  *
+ * A large file need not be in memory. Its head is a DICOM file with its values at (0002,0002), (0002,0003),
+ * (0002,0010), (0008,0016), (0008,0018), (0010,0020), (0020,000D) and (0020,000E). Its own bytes before the Pixel Data
+ * (7FE0,0010) are one. By SHA-256 and head it has the finding that it has whole.
+ *
  * bytes     the DICOMDIR
  * files     the files, each by the number of its record
  * contents  what is given of them, one after the other
- * keys      other than 0: compares identifiers too, of files that are given whole (`check --keys`)
+ * keys      other than 0: compares these values too, of files that are given whole or with a head (`check --keys`)
  * strict    other than 0: finds records without a digest (`check --strict`)
  * findings  room for as many findings as files, which is answer->rows: findings[i] is of files[i]
  *
- * 0; 1; 2 where a row is no record, ends do not rise or pass `contents`, `given` is above DICOMDIR_DIGEST, or a digest
- * has not 32 bytes; 51 to 58; 91. */
+ * 0; 1; 51 to 58; 91; 2 where a row is no record, ends do not rise or pass `contents`, or `given` is above
+ * DICOMDIR_HEAD. It is 2, too, where a digest has another length than 32 bytes. */
 uint32_t dicomdir_findings(const uint8_t *bytes, size_t bytes_len, const struct dicomdir_file *files, size_t files_len,
                            const uint8_t *contents, size_t contents_len, uint32_t keys, uint32_t strict,
                            struct dicomdir_finding *findings, size_t findings_len, struct dicomdir_answer *answer);

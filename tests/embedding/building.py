@@ -5,10 +5,11 @@
 import shutil
 import subprocess
 import sys
+from hashlib import sha256
 from pathlib import Path
 
 import dicomdir
-from cases import EXAMPLES, PACKAGED, TOP, Tally, packaged_images, run
+from cases import EXAMPLES, PACKAGED, TOP, Tally, head_of, packaged_images, run
 
 room = Path(sys.argv[1])
 
@@ -64,6 +65,17 @@ def withdraws(tally, folder):
     tally.note("withdraw", status == 0 and same_folders(out, mine) and left.withdrawn == sorted(uids), errors, uids)
 
 
+def known_by_head(record):
+    """The SHA-256 and the head of a record's file."""
+    try:
+        data = record.read()
+    except dicomdir.Fault as fault:
+        if fault.status == 92:
+            return None
+        raise OSError from fault
+    return sha256(data).digest(), head_of(data)
+
+
 def damages(tally, folder):
     """What is found of damaged files, by `check` and by the package."""
     damaged = room / f"damaged{tally.cases}"
@@ -88,7 +100,9 @@ def damages(tally, folder):
         lines = [line.split() for line in output.splitlines()]
         wanted = [" ".join(line[:2] if line[0] == "DIFFERS" else line) for line in lines]
         found = [str(one) for one in disc.check(keys, strict=True)]
-        tally.note(" ".join(words), found == wanted or not found and wanted[0].startswith("OK "), wanted, found)
+        same = found == wanted or not found and wanted[0].startswith("OK ")
+        by_head = [str(one) for one in disc.check(keys, strict=True, known=known_by_head)]
+        tally.note(" ".join(words), same and by_head == found, wanted, found, by_head)
 
 
 def refused(status, function, *words):

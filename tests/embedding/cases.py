@@ -1,4 +1,5 @@
 """What the tests share: the program, files to begin with, and how they are damaged."""
+import io
 import os
 import random
 import subprocess
@@ -25,6 +26,14 @@ def run(*words):
 def fault_of(errors):
     """The words of a fault, after FAULT and its path, in the last line."""
     return errors.rstrip("\n").rsplit("\n", 1)[-1].split(": ", 1)[-1]
+
+
+def head_of(data):
+    """The file without its Pixel Data, as pydicom writes it."""
+    from pydicom import dcmread
+    head = io.BytesIO()
+    dcmread(io.BytesIO(data), stop_before_pixels=True).save_as(head)
+    return head.getvalue()
 
 
 def packaged_images():

@@ -1,6 +1,6 @@
-/* Calls each function of dicomdir.h with its inputs and outputs right before pages without access: with no room, with
- * the exact room, and with each output one item short, of which then nothing may be written. Each allocation is refused
- * in turn. Eight threads call at once, on small stacks.
+/* Calls each function of dicomdir.h with its inputs and outputs right before pages without access. It gives no room,
+ * the exact room, and each output one item short; then nothing may be written. Each allocation is refused in turn.
+ * Eight threads call at once, on small stacks.
  *
  *     guard DICOMDIR IMAGE
  *
@@ -34,11 +34,11 @@ struct function {
     void (*wanted)(const struct dicomdir_answer *, size_t *);
 };
 
-static uint8_t *directory, *image, *uids;
-static size_t directory_len, image_len, uids_len;
+static uint8_t *directory, *image, *contents, *uids;
+static size_t directory_len, image_len, contents_len, uids_len;
 static uint32_t *tags;
 static uint64_t *directory_end, *uid_end;
-static struct dicomdir_file *file;
+static struct dicomdir_file *files;
 
 static long refused = -1, allocations;
 static __thread int counting;
@@ -54,7 +54,7 @@ void *realloc(void *old, size_t size) {
 }
 #endif
 
-/* So many bytes, which a page without access follows. */
+/* Room for this many bytes, which a page without access follows. */
 static void *fenced(size_t bytes) {
     size_t pages = (bytes + PAGE - 1) / PAGE * PAGE;
     char *at = mmap(NULL, pages + PAGE, PROT_READ | PROT_WRITE, MAP_PRIVATE | MAP_ANONYMOUS, -1, 0);
@@ -76,7 +76,8 @@ static uint32_t front(const struct rooms *r, struct dicomdir_answer *a) {
     return dicomdir_front(directory, directory_len, r->at[0], r->items[0], r->at[1], r->items[1], &unreached, a);
 }
 static uint32_t findings(const struct rooms *r, struct dicomdir_answer *a) {
-    return dicomdir_findings(directory, directory_len, file, 1, image, image_len, 1, 1, r->at[0], r->items[0], a);
+    return dicomdir_findings(directory, directory_len, files, 2, contents, contents_len, 1, 1, r->at[0], r->items[0],
+                             a);
 }
 static uint32_t of_image(const struct rooms *r, struct dicomdir_answer *a) {
     return dicomdir_of_image(image, image_len, r->at[0], r->items[0], a);
@@ -254,7 +255,14 @@ int main(int count, char **words) {
     tags = fenced_copy(some_tags, sizeof some_tags);
     directory_end = fenced_copy(&(uint64_t){directory_len}, sizeof(uint64_t));
     uid_end = fenced_copy(&(uint64_t){uids_len}, sizeof(uint64_t));
-    file = fenced_copy(&(struct dicomdir_file){0, image_len, DICOMDIR_WHOLE}, sizeof *file);
+    /* The record of the first image, and its file twice: whole, and by a digest and a head. */
+    contents_len = 2 * image_len + 32;
+    contents = fenced(contents_len);
+    memcpy(contents, image, image_len);
+    memset(contents + image_len, 0, 32);
+    memcpy(contents + image_len + 32, image, image_len);
+    const struct dicomdir_file both[2] = {{3, image_len, DICOMDIR_WHOLE}, {3, contents_len, DICOMDIR_HEAD}};
+    files = fenced_copy(both, sizeof both);
     for (size_t at = 0; at < sizeof functions / sizeof *functions; at++) {
         try_function(&functions[at]);
         try_threads(&functions[at]);

@@ -11,10 +11,11 @@ import subprocess
 import sys
 import threading
 import warnings
+from hashlib import sha256
 from pathlib import Path
 
 import dicomdir
-from cases import EXAMPLES, PACKAGED, run
+from cases import EXAMPLES, PACKAGED, head_of, run
 from dicomdir import _bytes, _calls, _text
 
 made, room = Path(sys.argv[1]), Path(sys.argv[2])
@@ -79,6 +80,36 @@ def tree():
     os.rename(room / "tree/pt000001", room / "elsewhere")
     os.symlink(room / "elsewhere", room / "tree/pt000001")
     same("links", {one.kind for one in small.check()}, {"MISSING"})
+
+
+def known_files():
+    """`check` of files that a caller knows: whole, by their digests, with heads, of other images, and none."""
+    for folder in sorted(made.iterdir()):
+        disc = dicomdir.read(folder)
+        files = {image: image.read() for image in disc}
+        others = dict(zip(files, [*files.values()][1:] + [*files.values()][:1]))
+        away = dicomdir.FileSet(disc.data)
+        for name, chosen in (("its own", files), ("other", others)):
+            by_row = {image.row: data for image, data in chosen.items()}
+            def whole(record):
+                return by_row[record.row]
+            def headed(record):
+                return sha256(by_row[record.row]).digest(), head_of(by_row[record.row])
+            wanted = [str(one) for one in away.check(keys=True, known=whole)]
+            same(f"{folder.name}: {name} heads", [str(one) for one in away.check(keys=True, known=headed)], wanted)
+            same(f"{folder.name}: {name} files", bool(wanted), name == "other" and len(files) > 1)
+        wanted = [str(one) for one in disc.check(strict=True)]
+        found = away.check(strict=True, known=lambda record: (sha256(files[disc.records[record.row]]).digest(), None))
+        same(f"{folder.name}: digests", [str(one) for one in found], wanted)
+        same(f"{folder.name}: none", {one.kind for one in away.check(known=lambda record: None)}, {"MISSING"})
+    def fails(record):
+        raise OSError
+    same("a failed read", {one.kind for one in away.check(known=fails)}, {"UNREADABLE"})
+    try:
+        away.check(known=lambda record: (b"31", None))
+        same("a short digest", False)
+    except ValueError:
+        same("a short digest", True)
 
 
 def paths_stay_below():
@@ -202,6 +233,6 @@ def threads():
     same("threads", found, [True] * 8)
 
 
-for test in beside_pydicom, tree, paths_stay_below, texts, prints, imports, calls, threads:
+for test in beside_pydicom, tree, known_files, paths_stay_below, texts, prints, imports, calls, threads:
     test()
 print(f"package: {passed} answers are as wanted")

@@ -7,7 +7,7 @@ from ._faults import Fault
 
 Data = Union[bytes, bytearray, memoryview]
 # What is given of a file to `find_in_files`.
-ABSENT, UNREADABLE, WHOLE, DIGEST = range(4)
+ABSENT, UNREADABLE, WHOLE, DIGEST, HEAD = range(5)
 
 
 def as_bytes(data: Data) -> bytes:

@@ -1,9 +1,9 @@
 """Reads the files of a file-set, and has the library say what is found of them."""
 import os
 from hashlib import sha256
-from typing import Iterable, Iterator, List, Tuple
+from typing import Iterable, Iterator, List, Optional, Tuple, Union
 
-from ._bytes import ABSENT, DIGEST, UNREADABLE, WHOLE, Found, find_in_files
+from ._bytes import ABSENT, DIGEST, HEAD, UNREADABLE, WHOLE, Data, Found, as_bytes, find_in_files
 from ._faults import Fault
 from ._opening import open_below, parts_of, pieces, read_whole
 
@@ -11,24 +11,43 @@ from ._opening import open_below, parts_of, pieces, read_whole
 _LONGEST = 2 ** 32 - 1
 # The library reads the directory anew for each call, so a call gets files of this many bytes.
 _BATCH = 64 << 20
+# What a caller knows of a file: all its bytes, its SHA-256 with its head or without, or that it can't be opened.
+Known = Union[None, Data, Tuple[Data, Optional[Data]]]
+# The number of a record, in what form its file is given, and the bytes.
+_File = Tuple[int, int, bytes]
 
 
-def findings(directory: bytes, folder: str, files: Iterable[Tuple[int, bytes]], keys: bool,
-             strict: bool) -> Iterator[Tuple[int, Found]]:
-    """What is found of the files of these records, each by its number and its File ID."""
-    batch: List[Tuple[int, int, bytes]] = []
+def findings(directory: bytes, files: Iterable[_File], keys: bool, strict: bool) -> Iterator[Tuple[int, Found]]:
+    """What is found of these files, each by the number of its record."""
+    batch: List[_File] = []
     size = 0
-    for row, file_id in files:
-        kind, content = _given(folder, file_id, keys)
-        batch.append((row, kind, content))
-        size += len(content)
+    for file in files:
+        batch.append(file)
+        size += len(file[2])
         if size > _BATCH:
             yield from _found(directory, batch, keys, strict)
             batch, size = [], 0
     yield from _found(directory, batch, keys, strict)
 
 
-def _found(directory: bytes, batch: List[Tuple[int, int, bytes]], keys: bool, strict: bool) -> List[Tuple[int, Found]]:
+def as_known(row: int, given: Known) -> _File:
+    """The file of a record, as a caller knows it."""
+    if given is None:
+        return row, ABSENT, b""
+    if not isinstance(given, tuple):
+        return row, WHOLE, as_bytes(given)
+    digest, head = given
+    if len(digest) != 32:
+        raise ValueError("a SHA-256 has 32 bytes")
+    return (row, DIGEST, as_bytes(digest)) if head is None else (row, HEAD, as_bytes(digest) + as_bytes(head))
+
+
+def in_folder(folder: str, row: int, file_id: bytes, whole: bool) -> _File:
+    """The file of a record, as it is read by its File ID."""
+    return (row, *_given(folder, file_id, whole))
+
+
+def _found(directory: bytes, batch: List[_File], keys: bool, strict: bool) -> List[Tuple[int, Found]]:
     found = find_in_files(directory, batch, keys, strict) if batch else []
     return [(row, one) for (row, _, _), one in zip(batch, found) if one.kind]
 

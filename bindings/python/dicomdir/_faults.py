@@ -12,7 +12,8 @@ FAULTS = {
     95: "Folder", 96: "Unsent", 97: "Changed"}
 # The faults whose words name the offset of a record.
 _PLACED = (53, 54, 55, 58, 61, 62, 63)
-# No faults of docs/FAULTS.md, but of the library's arguments.
+# Numbers below this one are causes. As the status of a call they are no faults of docs/FAULTS.md.
+_LEAST = 31
 _ARGUMENTS = "arguments at fault"
 
 
@@ -33,7 +34,7 @@ class Fault(ValueError):
     @property
     def words(self) -> str:
         """The fault without its path."""
-        if self.status not in FAULTS:
+        if self.status < _LEAST or self.status not in FAULTS:
             return _ARGUMENTS
         numbers = [self.status] if self.status == 91 else [self.status, self.within, self.cause]
         words = [f"{number} {FAULTS[number]}" for number in numbers if number in FAULTS]

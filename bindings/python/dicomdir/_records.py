@@ -1,7 +1,8 @@
 """Directories as records, and file-sets as folders that have one."""
 import os
 from array import array
-from typing import TYPE_CHECKING, Any, Dict, Iterable, Iterator, List, NamedTuple, Optional, Sequence, Tuple, Union
+from typing import (TYPE_CHECKING, Any, Callable, Dict, Iterable, Iterator, List, NamedTuple, Optional, Sequence, Tuple,
+                    Union)
 
 from . import _bytes
 from ._bytes import Data
@@ -11,6 +12,7 @@ from ._text import text_of
 
 if TYPE_CHECKING:
     from ._building import Built
+    from ._checking import Known
 
 # The elements that are read at once. Others are read when they are asked for.
 KEYWORDS: Dict[str, int] = {
@@ -143,8 +145,10 @@ class Record:
         return os.path.join(self.fileset.path or "", "/".join(parts)) if parts else None
 
     def read(self) -> bytes:
-        """The bytes of its file, also where a system shows it under another name. 92 Absent where it can't be opened, 93
-        Unread where a read fails."""
+        """The bytes of its file, also where a system shows it under another name.
+
+        Raises Fault: 92 Absent where it can't be opened, 93 Unread where a read fails.
+        """
         parts = parts_of(self.raw(_FILE)) if self.path else None
         if parts is None:
             raise Fault(92, path=self.path)
@@ -303,18 +307,36 @@ class FileSet:
         """The text that `dicomdir list` prints."""
         return _bytes.listing(self.data)
 
-    def check(self, keys: bool = False, strict: bool = False) -> List[Finding]:
+    def check(self, keys: bool = False, strict: bool = False,
+              known: Optional[Callable[[Record], "Known"]] = None) -> List[Finding]:
         """What `dicomdir check` finds of the files: none where all are there, and as their records say.
 
         Each file's SHA-256, by hashlib, is compared with its record's. With `keys` the identifiers are compared too,
         and with `strict` records without a SHA-256 are found.
+
+        `known` gives what is known of a record's file, in place of the files of the folder. It gives all its bytes, or
+        None where it can't be opened. Of a large file it gives a pair: its SHA-256, and its head or None. The head is a
+        DICOM file with its identifiers, such as its bytes before the Pixel Data. An OSError is a read that failed.
         """
         from ._checking import findings
+        files = self._in_folder(keys) if known is None else self._known(known)
         return [Finding(Record(self, row), _FINDINGS[found.kind], _words(found))
-                for row, found in findings(self.data, self._folder(), self._named(), keys, strict)]
+                for row, found in findings(self.data, files, keys, strict)]
 
-    def _named(self) -> Iterator[Tuple[int, bytes]]:
-        return ((row, self._own(row, _FILE)) for row in self._files)
+    def _in_folder(self, whole: bool) -> Iterator[Tuple[int, int, bytes]]:
+        from ._checking import in_folder
+        folder = self._folder()
+        return (in_folder(folder, row, self._own(row, _FILE), whole) for row in self._files)
+
+    def _known(self, known: Callable[[Record], "Known"]) -> Iterator[Tuple[int, int, bytes]]:
+        from ._checking import as_known
+        for row in self._files:
+            try:
+                given = known(Record(self, row))
+            except OSError:
+                yield row, _bytes.UNREADABLE, b""
+            else:
+                yield as_known(row, given)
 
     @staticmethod
     def build(paths: Iterable[Union[str, "os.PathLike[str]"]], set_id: str = "", uid: str = "") -> "Built":

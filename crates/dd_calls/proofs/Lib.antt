@@ -1,3 +1,4 @@
 pub mod Growing
+pub mod HeadFiles
 pub mod Inheriting
 pub mod Judged

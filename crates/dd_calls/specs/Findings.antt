@@ -1,6 +1,6 @@
 -- What is found of files that a caller has, by the records of a directory (PS3.3 section F.3.2.2, Referenced File ID).
-use Rattle.std.specs.Prelude.{◌≡◌, ℕ, not, ◌&&◌, ◌||◌, ◌==◌, nat_le, List, [], ◌∷◌, length}
-use Rattle.std.specs.Prelude.{Option, None, Some, option_map, slice_get, slice_range, if◌then◌else◌}
+use Rattle.std.specs.Prelude.{◌≡◌, ℕ, not, ◌&&◌, ◌||◌, ◌==◌, nat_le, List, [], ◌∷◌, length, take, drop}
+use Rattle.std.specs.Prelude.{Option, None, Some, option_map, Result, slice_get, slice_range, if◌then◌else◌}
 use Rattle.std.specs.Option.{option_or}
 use Rattle.dd_elem.specs.FileIdForm.{is_file_id_form}
 use Rattle.dd_elem.specs.Tag.{number_of}
@@ -8,7 +8,9 @@ use Rattle.dd_version.specs.Fitting.{is_empty}
 use Rattle.dd_dir.specs.Saying.{digest_in}
 use Rattle.dd_dir.specs.Reading.{IsWalk}
 use Rattle.dd_dir.specs.Trees.{Node, Walk}
-use Rattle.dd_report.specs.Agreements.{Standing, found_in, standings_below}
+use Rattle.dd_part10.specs.declared.fault.FileFault.{FileFault}
+use Rattle.dd_part10.specs.Reading.{FileParts, file_in as parts_in}
+use Rattle.dd_report.specs.Agreements.{Standing, found_in, is_image, mislabelled, standings_below}
 use Rattle.dd_report.specs.Finding.{compared, file_in, without_digest}
 use Rattle.dd_report.specs.declared.checking.Comparison.{Comparison}
 use Rattle.dd_report.specs.declared.findings.Finding.{Finding}
@@ -27,14 +29,30 @@ abbrev pub found_by_digest : Comparison → Node → List ℕ → Option Finding
 found_by_digest comparison node digest =
     option_or (compared (digest_in node.set) digest) (without_digest comparison.strict node)
 
--- What is found of a file of which this is given, by the number of its form: it could not be opened, a read of it failed,
--- all its bytes, or the 32 bytes of its digest. None where it is given in no such form.
+-- What is found of a file by this digest of its bytes and by what reading it gives. `found_in` finds the same by the
+-- digest and the reading of all its bytes.
+abbrev pub found_by_keys : Comparison → Standing → List ℕ → Result FileParts FileFault → Option Finding
+found_by_keys comparison standing digest said =
+    let differs = compared (digest_in standing.node.set) digest in
+    option_or (if comparison.keys && is_image standing.node then option_or differs (mislabelled standing said) else differs)
+    (without_digest comparison.strict standing.node)
+
+-- what is found of a file by its digest and by what follows it: its head, a DICOM file that stands for it where keys are
+-- compared
+abbrev pub found_by_head : Comparison → Standing → List ℕ → Option (Option Finding)
+found_by_head comparison standing bytes =
+    if nat_le 32 (length bytes)
+    then Some (found_by_keys comparison standing (take 32 bytes) (parts_in (drop 32 bytes))) else None
+
+-- What is found of a file of which this is given, by the number of its form. It could not be opened, a read of it
+-- failed, all its bytes, the 32 bytes of its digest, or these and then its head. None where it is given in no such form.
 abbrev pub found_given : Comparison → Standing → ℕ → List ℕ → Option (Option Finding)
 found_given comparison standing form bytes =
     if form == 0 then Some (Some Missing)
     else (if form == 1 then Some (Some Unreadable)
     else (if form == 2 then Some (found_in comparison standing bytes)
-    else (if (form == 3) && (length bytes == 32) then Some (found_by_digest comparison standing.node bytes) else None)))
+    else (if (form == 3) && (length bytes == 32) then Some (found_by_digest comparison standing.node bytes)
+    else (if form == 4 then found_by_head comparison standing bytes else None))))
 
 -- nothing is found where the record is not in use or names no file, and its name is found wrong before its file
 abbrev pub unless_misnamed : Node → Option Finding → Option Finding

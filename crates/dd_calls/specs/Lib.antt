@@ -2,6 +2,7 @@ pub mod Answers
 pub mod Beside
 pub mod Faults
 pub mod Findings
+pub mod Heads
 pub mod Rows
 pub mod Sizes
 pub mod Standings

@@ -22,14 +22,15 @@ use std::alloc::Global;
 
 /// Gives what a check by this comparison finds of each of these files to the front of `findings`, and answers 0. The
 /// records of the files stand in the directory `bytes`. What is given of each stands in `contents`, one after the
-/// other. A file of which the digest alone is given is judged by its digest alone.
+/// other. A file of which the digest alone is given is judged by its digest alone. Where a head comes after the digest,
+/// the head stands for the file in a comparison of keys, as `heads_stand_for_files` says.
 ///
 /// Else nothing of `findings` is changed, and the status is:
 ///
 /// - 1 where it is shorter than `files`
 /// - the number of the fault of `read_directory`
-/// - 2 where one of the files has a row that is no record's, an end before that of the file before it or past
-///   `contents`, a form that is none, or a digest that has not 32 bytes
+/// - 2 where a row is past the records, an end before the last one or past `contents`, or a form above 4. It is 2, too,
+///   where a digest has another length than 32 bytes
 /// - 91 where an allocation is refused
 pub fn findings(
     alloc: Global,

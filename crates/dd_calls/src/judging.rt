@@ -2,10 +2,12 @@
 
 ghost use Rattle.std.specs.Prelude.{◌≡◌, ◌==◌, IfOk, None, Some, if◌then◌else◌, length, option_map};
 ghost use Rattle.dd_dir.specs.ForestViews.{tree_view};
+ghost use Rattle.dd_part10.specs.Reading.{file_in};
 ghost use Rattle.dd_report.specs.Agreements.{Standing as Record, found_in, is_image};
 ghost use Rattle.dd_report.specs.Finding.{compared, without_digest};
 ghost use Rattle.dd_dir.specs.Saying.{digest_in};
-ghost use Rattle.dd_calls.specs.Findings.{finding_row, found_by_digest, found_given, unless_misnamed};
+ghost use Rattle.dd_calls.specs.Findings.{finding_row, found_by_digest, found_by_head, found_by_keys, found_given};
+ghost use Rattle.dd_calls.specs.Findings.{unless_misnamed};
 ghost use Rattle.dd_calls.specs.Standings.{seen_by, standing_view};
 
 use crate::agreements::mislabelled;
@@ -42,6 +44,13 @@ pub(crate) fn judge(
             Ok(Some(row_of(tree, found)))
         }
         3 => Ok(judge_digest(tree, bytes, comparison)),
+        4 => {
+            let Some((digest, head)) = bytes.split_first_chunk::<32>() else {
+                return Ok(None);
+            };
+            let found = found_by_keys(alloc, standing, *digest, head, comparison)?;
+            Ok(Some(row_of(tree, found)))
+        }
         _ => Ok(None),
     }
 }
@@ -55,10 +64,24 @@ fn judge_whole(
     ensures { IfOk result (λ finding. (entry : Record) → standing_view standing.now ≡ seen_by entry
         → finding ≡ found_in comparison entry bytes.now) }
 {
+    found_by_keys(alloc, standing, Sha256::digest(bytes), bytes, comparison)
+}
+
+/// Compares the digest, and where that does not differ what the file `said` says of itself.
+fn found_by_keys(
+    alloc: Global,
+    standing: &Standing<'_, '_>,
+    digest: [u8; 32],
+    said: &[u8],
+    comparison: Comparison,
+) -> Result<Option<Finding>, Memory>
+    ensures { IfOk result (λ finding. (entry : Record) → standing_view standing.now ≡ seen_by entry
+        → finding ≡ found_by_keys comparison entry digest (file_in said.now)) }
+{
     let tree = standing.tree;
-    let differs = compared(tree, Sha256::digest(bytes));
+    let differs = compared(tree, digest);
     let found = if differs.is_none() && comparison.keys && is_image(tree) {
-        mislabelled(alloc, standing, bytes)?
+        mislabelled(alloc, standing, said)?
     } else {
         differs
     };
