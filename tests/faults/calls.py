@@ -1,9 +1,10 @@
 """Runs with calls of the system that fail."""
 import collections
+import dataclasses
 import errno
 import os
 
-from rooms import DIRECTORY, OUTPUT, count_kinds, harm, result_of, tell_standing
+from rooms import DIRECTORY, OUTPUT, Command, count_kinds, harm, result_of, tell_standing
 
 # It is opened first. Where a standard descriptor is closed, it stays open in its place.
 NULL = "/dev/null"
@@ -33,12 +34,14 @@ def tasks(case):
         counts[call.name] += 1
         for error in ERRORS[call.name]:
             yield at, counts[call.name], error, False
-            # What is interrupted for ever is no disc that fails.
-            if error != "EINTR":
+            # What is interrupted for ever is no disc that fails. Where images are made of the sources that are left, which
+            # ones these are decides what the later calls are.
+            if error != "EINTR" and not (keeps_going(case) and DIRECTORY in case.right.left):
                 yield at, counts[call.name], error, True
 
 
-# ---- What has to come of a failure: nothing (None), a fault, a finding, or that the output failed ----
+# ---- What has to come of a failure: nothing (None), a fault, a finding, a source that is skipped, or that the output
+# failed ----
 
 
 def folder_to_make(calls, at):
@@ -186,6 +189,42 @@ def found_lines(case, findings):
     return "".join(f"{line}\n" for line in lines)
 
 
+def keeps_going(case):
+    """Does the command go on past a source that fails?"""
+    return "--keep-going" in case.command.words
+
+
+def sources(case):
+    """The sources of an index, in their order."""
+    return [word for word in case.command.words.split()[2:] if not word.startswith(("-", "2."))]
+
+
+def skipped(case, task):
+    """The faults of the sources that are passed since this call fails, and each later one of its name where that
+    lasts, by their paths."""
+    at, _, error, lasts = task
+    calls, found = case.right.calls, {}
+    closed = {call.path: place for place, call in reversed(list(enumerate(calls))) if call.name == "close"}
+    for place in range(at, len(calls)) if lasts else [at]:
+        if calls[place].name == calls[at].name and place <= closed.get(calls[place].path, place):
+            path, _, fault = (consequence(case, place, error, lasts) or "").partition(": ")
+            if path == "error":
+                break
+            if path in sources(case):
+                found.setdefault(path, fault)
+    return found
+
+
+def without(room, case, faults):
+    """The case of the same command where sources that are not there stand in the places of these, with their lines."""
+    words = " ".join("absent/" + word if word in faults else word for word in case.command.words.split())
+    other = room.learn(Command(case.command.name, words, case.command.before))
+    out = other.right.out
+    for path, fault in faults.items():
+        out = out.replace(f"SKIP absent/{path}: 92 Absent\n", f"SKIP {path}: {fault}\n")
+    return dataclasses.replace(other, right=dataclasses.replace(other.right, out=out))
+
+
 def is_as_failed(case, run, task):
     """Has the run the status and the lines that must come of it that this call fails, and each later one of its name
     where that lasts?"""
@@ -250,7 +289,12 @@ def try_one(room, case, task):
     refused = f"{call.name} {number} {getattr(errno, error)}"
     run = room.run(case.command, REFUSE_CALL=refused, **({"REFUSE_LATER": "1"} if lasts else {}))
     what = f"{call.name} {number} {call.path} {error} {'and all later' if lasts else 'alone'}"
-    return result_of(case, what, run, kind_of(case, run, error), judge(case, run, task))
+    faults = skipped(case, task) if keeps_going(case) else {}
+    if not faults or (error == "EINTR" and run.is_as(case.right)):
+        return result_of(case, what, run, kind_of(case, run, error), judge(case, run, task))
+    other = without(room, case, faults)
+    wrong = harm(other, run) + ([] if run.is_as(other.right) else ["it is not what has to come of this"])
+    return result_of(other, what, run, "a source skipped" if run.is_as(other.right) else kind_of(case, run, error), wrong)
 
 
 def sum_up(case, results):
