@@ -1,11 +1,12 @@
 -- What was made of the answer of an engine.
-use Rattle.std.proofs.Common.{◌≡◌, ◌∙◌, ◌++◌, ◌+◌, ◌<◌, ℕ, List, [], ◌∷◌, Option, Result, Ok, Err, IfOk, IsOk}
+use Rattle.std.proofs.Common.{◌≡◌, ◌++◌, ◌+◌, ◌<◌, ℕ, List, [], ◌∷◌, Option, Result, Ok, Err, IfOk, IsOk}
 use Rattle.std.proofs.Common.{ap, arith, get_or, length, map, refl, subst, sym, take}
 use Rattle.std.proofs.lemmas.List.{take_more}
 use Rattle.dd_engine.specs.declared.choice.Choice.{Choice}
 use Rattle.dd_engine.specs.declared.noted_merge.NotedMerge.{NotedMerge}
 use Rattle.dd_engine.specs.MergeNotes.{NotesSets}
 use Rattle.dd_files.specs.Files.{Held}
+use Rattle.dicomdir.proofs.AllStanding.{stands_whole}
 use Rattle.dicomdir.specs.Indexes.{limits_of}
 use Rattle.dicomdir.specs.Made.{IsMemberPath, MakesFileSet, MayLink}
 use Rattle.dicomdir.specs.Merges.{AreDirectories, DoneMerges, HasDirectory}
@@ -30,7 +31,8 @@ done_merges (Ok status) choice bytes given folders sets GivesLinks folder old ne
   own = h.1;
   merged = noted.merged;
   is = h.2.0;
-  made = made done;
+  stands = stands_whole (MayLink GivesLinks (IsMemberPath folders)) folder noted.merged.plan noted.merged.picks.items
+      old new (made done);
 }
 done_merges (Err refusal) choice bytes given folders sets GivesLinks folder old new noted are h made = tt
 

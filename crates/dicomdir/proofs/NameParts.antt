@@ -9,7 +9,7 @@ use Rattle.std.proofs.lemmas.List.{take_all, get_or-take, get_or_at, get_or_appe
 use Rattle.std.proofs.lemmas.List.Elements.{All-cons, All-contains, All-head, All-nil, All-push, All-tail, All-weaker}
 use Rattle.std.proofs.lemmas.List.Sums.{fails_before_first, passes_at_first, split_at_first}
 use Rattle.dd_report.proofs.FirstPlaces.{first_within, none_within}
-use Rattle.dicomdir.specs.ListedNames.{AreNames, FailsAt, IsListOf, IsName, parts}
+use Rattle.dicomdir.specs.ListedNames.{AreNames, FailsAt, IsListOf, IsListed, parts}
 
 -- ---- the first part
 
@@ -70,60 +70,80 @@ none_behind (byte ∷ list) is some =
 -- ---- the names so far
 
 -- these names were read, and the other parts are left
-pub record NamesRead (list : List ℕ) (names : List (List ℕ)) (rest : List ℕ) : Type 0 where
+pub record NamesRead (keeps_going : Bool) (list : List ℕ) (names : List (List ℕ)) (rest : List ℕ) : Type 0 where
   pub all : parts list ≡ names ++ parts rest
-  pub good : All IsName names
+  pub good : All (IsListed keeps_going) names
 
-pub none_read : (list : List ℕ) → NamesRead list [] list
-none_read list = record { all = refl; good = All-nil IsName }
+pub none_read : (keeps_going : Bool) (list : List ℕ) → NamesRead keeps_going list [] list
+none_read keeps_going list = record { all = refl; good = All-nil (IsListed keeps_going) }
 
-pub name_read : (list : List ℕ) (names : List (List ℕ)) (name rest behind : List ℕ) → parts rest ≡ name ∷ parts behind
-    → NamesRead list names rest → IsName name → NamesRead list (names ++ name ∷ []) behind
-name_read list names name rest behind is so_far good = record {
+pub name_read : (keeps_going : Bool) (list : List ℕ) (names : List (List ℕ)) (name rest later : List ℕ)
+    → parts rest ≡ name ∷ parts later → NamesRead keeps_going list names rest → IsListed keeps_going name
+    → NamesRead keeps_going list (names ++ name ∷ []) later
+name_read keeps_going list names name rest later is so_far good = record {
   all = so_far.all ∙ ap (λ (xs : List (List ℕ)). names ++ xs) is
-      ∙ sym (append_assoc names (name ∷ []) (parts behind));
-  good = All-push IsName names name so_far.good good;
+      ∙ sym (append_assoc names (name ∷ []) (parts later));
+  good = All-push (IsListed keeps_going) names name so_far.good good;
 }
 
 -- where no parts are left
-pub all_read : (list : List ℕ) (names : List (List ℕ)) (rest : List ℕ) → rest ≡ [] → NamesRead list names rest
-    → names ≡ parts list
-all_read list names rest none so_far =
+pub all_read : (keeps_going : Bool) (list : List ℕ) (names : List (List ℕ)) (rest : List ℕ) → rest ≡ []
+    → NamesRead keeps_going list names rest → names ≡ parts list
+all_read keeps_going list names rest none so_far =
     sym (so_far.all ∙ ap (λ (xs : List ℕ). names ++ parts xs) none ∙ append-nil names)
 
-pub all_good : (list : List ℕ) (names : List (List ℕ)) (rest : List ℕ) → rest ≡ [] → names ≢ []
-    → NamesRead list names rest → AreNames (parts list)
-all_good list names rest none some so_far =
-    subst AreNames (all_read list names rest none so_far) (record { some = some; each = so_far.good })
+longer_some : (byte : ℕ) (names : List (List ℕ)) → onto_first byte names ≢ []
+longer_some byte [] none = absurd (cc)
+longer_some byte (name ∷ names) none = absurd (cc)
 
--- where there is no part
-pub fails_empty : (list : List ℕ) (rest : List ℕ) → rest ≡ [] → NamesRead list [] rest → FailsAt (parts list) 1
-fails_empty list rest none so_far =
-    subst (λ (xs : List (List ℕ)). FailsAt xs 1) (all_read list [] rest none so_far) (record {
-      counted = omega arith;
-      within = omega arith;
-      before = λ k d low high. absurd (omega (arith, low, high));
-      fails = λ name. name.some refl;
-    })
+-- a list that is not empty has a part
+parts_some : (list : List ℕ) → list ≢ [] → parts list ≢ []
+parts_some [] some none = some refl
+parts_some (byte ∷ list) some none = go (byte == 0) refl
+  where
+    go : (t : Bool) → (byte == 0) ≡ t → ⊥
+    go true t = absurd (cc (sym (cons_yes byte list t) ∙ none))
+    go false t = longer_some byte (parts list) (sym (cons_no byte list t) ∙ none)
 
--- where the next part is no name
-pub fails_next : (list : List ℕ) (names : List (List ℕ)) (part rest behind : List ℕ)
-    → parts rest ≡ part ∷ parts behind → NamesRead list names rest → ¬ IsName part
-    → FailsAt (parts list) (length names + 1)
-fails_next list names part rest behind is so_far bad =
-    let at_part = get_or_at names part (parts behind) [] (length names + 1 - 1) (omega arith) in
-    subst (λ (xs : List (List ℕ)). FailsAt xs (length names + 1))
+pub all_good : (keeps_going : Bool) (list : List ℕ) (names : List (List ℕ)) (rest : List ℕ) → rest ≡ [] → list ≢ []
+    → NamesRead keeps_going list names rest → AreNames keeps_going (parts list)
+all_good keeps_going list names rest none some so_far = record {
+  some = parts_some list some;
+  each = subst (All (IsListed keeps_going)) (all_read keeps_going list names rest none so_far) so_far.good;
+}
+
+-- an empty list has no part, and no empty part is taken
+none_listed : (keeps_going : Bool) → ¬ IsListed keeps_going []
+none_listed false name = name.some refl
+none_listed true some = some refl
+
+pub fails_empty : (keeps_going : Bool) (list : List ℕ) → list ≡ [] → FailsAt keeps_going (parts list) 1
+fails_empty keeps_going list none = subst (λ (xs : List ℕ). FailsAt keeps_going (parts xs) 1) (sym none) (record {
+  counted = omega arith;
+  within = omega arith;
+  before = λ k d low high. absurd (omega (arith, low, high));
+  fails = none_listed keeps_going;
+})
+
+-- where the next part is not taken
+pub fails_next : (keeps_going : Bool) (list : List ℕ) (names : List (List ℕ)) (part rest later : List ℕ)
+    → parts rest ≡ part ∷ parts later → NamesRead keeps_going list names rest → ¬ IsListed keeps_going part
+    → FailsAt keeps_going (parts list) (length names + 1)
+fails_next keeps_going list names part rest later is so_far bad =
+    let at_part = get_or_at names part (parts later) [] (length names + 1 - 1) (omega arith) in
+    subst (λ (xs : List (List ℕ)). FailsAt keeps_going xs (length names + 1))
     (sym (so_far.all ∙ ap (λ (xs : List (List ℕ)). names ++ xs) is)) (record {
       counted = omega arith;
       within = omega (
         arith,
-        le-max_right 1 (length (names ++ part ∷ parts behind)),
-        length-append names (part ∷ parts behind),
+        le-max_right 1 (length (names ++ part ∷ parts later)),
+        length-append names (part ∷ parts later),
       );
       before = λ k d low high.
           let earlier : k < length names = omega (arith, high) in
-          subst IsName (sym (get_or_append_left names (part ∷ parts behind) d k earlier)) (so_far.good k d earlier);
-      fails = λ name. bad (subst IsName at_part name);
+          subst (IsListed keeps_going) (sym (get_or_append_left names (part ∷ parts later) d k earlier))
+          (so_far.good k d earlier);
+      fails = λ name. bad (subst (IsListed keeps_going) at_part name);
     })
 
 -- ---- how the parts make the list

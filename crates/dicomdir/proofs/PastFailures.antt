@@ -1,7 +1,8 @@
 -- What an index reads of its files, whether it goes on past those that fail or not.
-use Rattle.std.proofs.Common.{◌≡◌, ◌≢◌, ◌∙◌, ◌+◌, ◌≤◌, ℕ, zero, suc, List, [], ◌∷◌, Bool, true, false, Option, Result, Ok, Err}
+use Rattle.std.proofs.Common.{◌≡◌, ◌≢◌, ◌∙◌, ◌≤◌, ℕ, zero, suc, List, [], ◌∷◌, Bool, true, false, Option, Result, Ok, Err}
+use Rattle.std.proofs.Common.{◌<◌, Global, String, get_or}
 use Rattle.std.proofs.Common.{ap, arith, inl, inr, length, map, refl, subst, sym, true≢false}
-use Rattle.std.specs.Prelude.{◌⊎◌, ◌↔◌, IfErr, IfOk, IfSome, IsOk, if◌then◌else◌, slice_get}
+use Rattle.std.specs.Prelude.{◌⊎◌, ◌↔◌, IfErr, IfOk, IfSome, if◌then◌else◌, slice_get}
 use Rattle.dd_engine.specs.declared.choice.Choice.{Choice}
 use Rattle.dd_engine.specs.declared.engine.Indexed.{Indexed}
 use Rattle.dd_engine.specs.declared.noted_index.NotedIndex.{NotedIndex}
@@ -12,24 +13,31 @@ use Rattle.dd_engine.specs.Indexing.{Answer, skipped_from}
 use Rattle.dd_engine.specs.declared.past_failures.PastFailures.{PastFailures}
 use Rattle.dd_engine.specs.declared.supply.Supply.{Ghosts as SupplyOf}
 use Rattle.dd_engine.specs.PastFailures.{AreReadings, IsReading, NotesPast, Reading, answers_of}
-use Rattle.dd_engine.specs.Supply.{AreAnswers, IsAnswer, IsOfSource}
+use Rattle.dd_engine.specs.Supply.{AreAnswers, IsAnswer}
 use Rattle.dd_files.specs.Files.{Held}
+use Rattle.dd_line.specs.Line.{words_of}
 use Rattle.dd_keys.specs.declared.fault.KeyFault.{KeyFault}
 use Rattle.dd_keys.specs.declared.fault.KeyFault.TheVariants as keys
 use Rattle.dicomdir.specs.FileSupply.{contents_by}
-use Rattle.dicomdir.specs.Indexes.{AreRead, Indexes, IsIndexStatus, IsRead, MakesIndex, NoneFailed, has_failed, is_unread}
+use Rattle.dicomdir.specs.ListedNames.{HavePaths}
+use Rattle.dicomdir.proofs.BadNames.{answers_name}
+use Rattle.dicomdir.proofs.AllStanding.{stands_whole}
+use Rattle.dicomdir.proofs.Unlinked.{copied_by}
+use Rattle.dicomdir.specs.Indexes.{AnswersName, AreRead, Indexes, IsIndexStatus, IsRead, MakesIndex, NoneFailed, has_failed, is_unread}
 use Rattle.dicomdir.specs.Indexes.{limits_of, most_of_source, status_past}
 use Rattle.dicomdir.specs.Made.{IsPathAt, MakesFileSet, MayLink}
 
 -- ---- readings of either kind
 
-reading_is_read : (contents : Option (List ℕ)) (at : ℕ) (reading : Reading) (refusals refused unread failed : ℕ)
-    → IsReading most_of_source contents at reading refusals refused unread failed → IsRead contents reading
-reading_is_read contents at (Ok answer) refusals refused unread failed h = h.0
-reading_is_read contents at (Err (faults.Absent number)) refusals refused unread failed h = tt
-reading_is_read contents at (Err (faults.Unread number)) refusals refused unread failed h = tt
-reading_is_read contents at (Err faults.Memory) refusals refused unread failed h = absurd h
-reading_is_read contents at (Err (faults.Plan fault)) refusals refused unread failed h = absurd h
+reading_is_read : (old : Option Held) (name : List ℕ) (contents : Option (List ℕ)) (at : ℕ) (reading : Reading)
+    (refusals refused unread failed : ℕ)
+    → ((answer : Answer) → IsAnswer most_of_source contents answer → AnswersName old name answer)
+    → IsReading most_of_source contents at reading refusals refused unread failed → IsRead old name reading
+reading_is_read old name contents at (Ok answer) refusals refused unread failed of h = of answer h.0
+reading_is_read old name contents at (Err (faults.Absent number)) refusals refused unread failed of h = tt
+reading_is_read old name contents at (Err (faults.Unread number)) refusals refused unread failed of h = tt
+reading_is_read old name contents at (Err faults.Memory) refusals refused unread failed of h = absurd h
+reading_is_read old name contents at (Err (faults.Plan fault)) refusals refused unread failed of h = absurd h
 
 if_some : {A : Type 0} (P Q : A → Type 0) (list : List A) (at : ℕ) → ((one : A) → P one → Q one)
     → IfSome (slice_get list at) P → IfSome (slice_get list at) Q
@@ -37,14 +45,25 @@ if_some P Q [] at f h = tt
 if_some P Q (one ∷ list) zero f h = f one h
 if_some P Q (one ∷ list) (suc at) f h = if_some P Q list at f h
 
-pub readings_are_read : (sources : List (List ℕ)) (old : Option Held) (readings : List Reading)
-    (refusals refused unread failed : ℕ → ℕ) → length readings ≡ length sources
-    → AreReadings most_of_source (contents_by old sources) readings refusals refused unread failed
+-- the same where the place is one of the list
+if_within : {A : Type 0} (P Q : A → Type 0) (list : List A) (at : ℕ) → (at < length list → (one : A) → P one → Q one)
+    → IfSome (slice_get list at) P → IfSome (slice_get list at) Q
+if_within P Q [] at f h = tt
+if_within P Q (one ∷ list) zero f h = f (omega arith) one h
+if_within P Q (one ∷ list) (suc at) f h =
+    if_within P Q list at (λ within. f (omega (arith, within))) h
+
+pub readings_are_read : (sources : List (List ℕ)) (texts : List (String Global)) (bad : List ℕ) (old : Option Held)
+    (readings : List Reading) (refusals refused unread failed : ℕ → ℕ)
+    → HavePaths sources (words_of texts) bad → length readings ≡ length (words_of texts)
+    → AreReadings most_of_source (contents_by old (words_of texts) bad) readings refusals refused unread failed
     → AreRead sources old readings
-readings_are_read sources old readings refusals refused unread failed many h = record {
-  count = many;
-  each = λ at. if_some _ (IsRead (contents_by old sources at)) readings at
-      (λ one is. reading_is_read (contents_by old sources at) at one _ _ _ _ is) (h.each at);
+readings_are_read sources texts bad old readings refusals refused unread failed have many h = record {
+  count = many ∙ have.count;
+  each = λ at. if_within _ (IsRead old (get_or sources at [])) readings at
+      (λ within one is. reading_is_read old (get_or sources at []) (contents_by old (words_of texts) bad at) at one _ _
+      _ _ (answers_name sources texts bad old have at (omega (arith, within, many, have.count))) is)
+      (h.each at);
 }
 
 -- the answers of an index that ends with the first source that fails
@@ -55,12 +74,12 @@ answered : (answers : List Answer) → answers_of (as_readings answers) ≡ answ
 answered [] = refl
 answered (answer ∷ answers) = ap (λ (rest : List Answer). answer ∷ rest) (answered answers)
 
-as_read : (contents : Option (List ℕ)) (answers : List Answer) (at : ℕ)
-    → IfSome (slice_get answers at) (IsAnswer most_of_source contents)
-    → IfSome (slice_get (as_readings answers) at) (IsRead contents)
-as_read contents [] at h = tt
-as_read contents (answer ∷ answers) zero h = h
-as_read contents (answer ∷ answers) (suc at) h = as_read contents answers at h
+as_read : (old : Option Held) (name : List ℕ) (answers : List Answer) (at : ℕ)
+    → IfSome (slice_get answers at) (AnswersName old name)
+    → IfSome (slice_get (as_readings answers) at) (IsRead old name)
+as_read old name [] at h = tt
+as_read old name (answer ∷ answers) zero h = h
+as_read old name (answer ∷ answers) (suc at) h = as_read old name answers at h
 
 as_many : (answers : List Answer) → length (as_readings answers) ≡ length answers
 as_many [] = refl
@@ -71,15 +90,19 @@ as_none_failed [] = tt
 as_none_failed (answer ∷ answers) = (refl, as_none_failed answers)
 
 -- where these are answers for the sources
-pub indexes_answers : (keeps_going : Bool) (choice : Choice) (bytes : ℕ) (sources : List (List ℕ)) (old : Option Held)
-    (answers : List Answer) (noted : NotedIndex) → length answers ≡ length sources
-    → AreAnswers most_of_source (contents_by old sources) answers
+pub indexes_answers : (keeps_going : Bool) (choice : Choice) (bytes : ℕ) (sources : List (List ℕ))
+    (texts : List (String Global)) (bad : List ℕ) (old : Option Held) (answers : List Answer) (noted : NotedIndex)
+    → HavePaths sources (words_of texts) bad → length answers ≡ length (words_of texts)
+    → AreAnswers most_of_source (contents_by old (words_of texts) bad) answers
     → NotesIndex choice (limits_of bytes) answers (Ok noted) → Indexes keeps_going choice bytes sources old noted
-indexes_answers keeps_going choice bytes sources old answers noted many right notes = record {
+indexes_answers keeps_going choice bytes sources texts bad old answers noted have many right notes = record {
   readings = as_readings answers;
   read = record {
-    count = as_many answers ∙ many;
-    each = λ at. as_read (contents_by old sources at) answers at (right.each at);
+    count = as_many answers ∙ many ∙ have.count;
+    each = λ at. as_read old (get_or sources at []) answers at
+        (if_within _ (AnswersName old (get_or sources at [])) answers at
+        (λ within. answers_name sources texts bad old have at (omega (arith, within, many, have.count)))
+        (right.each at));
   };
   all = λ _. as_none_failed answers;
   notes = subst (λ (all : List Answer). NotesIndex choice (limits_of bytes) all (Ok noted)) (sym (answered answers))
@@ -97,10 +120,10 @@ abbrev Settled : Reading → Type 0
 Settled (Ok answer) = IfErr answer (λ fault. fault ≢ keys.Read)
 Settled (Err fault) = Unit {0}
 
-settled : (contents : Option (List ℕ)) (reading : Reading) → IsRead contents reading → Settled reading
-settled contents (Ok (Ok version)) h = tt
-settled contents (Ok (Err fault)) h = h.settled.0
-settled contents (Err fault) h = tt
+settled : (old : Option Held) (name : List ℕ) (reading : Reading) → IsRead old name reading → Settled reading
+settled old name (Ok (Ok version)) h = tt
+settled old name (Ok (Err fault)) h = h.settled.0
+settled old name (Err fault) h = tt
 
 read_fault : (fault : KeyFault) → fault ≢ keys.Read → is_unread fault ≡ false
 read_fault keys.Read other = absurd (other refl)
@@ -138,8 +161,8 @@ module _ (choice : Choice) (bytes : ℕ) (sources : List (List ℕ)) (old : Opti
 
   all_settled : (readings : List Reading) → AreRead sources old readings
       → (at : ℕ) → IfSome (slice_get readings at) Settled
-  all_settled readings read at = if_some (IsRead (contents_by old sources at)) Settled readings at
-      (settled (contents_by old sources at)) (read.each at)
+  all_settled readings read at = if_some (IsRead old (get_or sources at [])) Settled readings at
+      (settled old (get_or sources at [])) (read.each at)
 
   skips_none : (readings : List Reading) → AreRead sources old readings
       → IsIndexed choice (limits_of bytes) (answers_of readings) indexed → NoneFailed readings
@@ -175,19 +198,20 @@ module _ (choice : Choice) (bytes : ℕ) (sources : List (List ℕ)) (old : Opti
   index_status false zero least h = rw (skips_none h.readings h.read h.notes.0 (h.all refl)) (inl (omega arith))
 
   -- the index is done where it has made its file-set
-  pub done_index : (keeps_going : Bool) (made : ℕ) (folder : List ℕ) (new : Option Held) → made ≤ 1
-      → Indexes keeps_going choice bytes sources old noted
-      → MakesFileSet (MayLink ⊥ (IsPathAt sources)) folder indexed.plan indexed.picks.items old new
+  pub done_index : (keeps_going : Bool) (made : ℕ) (paths : List (List ℕ)) (folder : List ℕ) (new : Option Held)
+      → made ≤ 1 → Indexes keeps_going choice bytes sources old noted
+      → MakesFileSet (MayLink ⊥ (IsPathAt paths)) folder indexed.plan indexed.picks.items old new
       → status_past made indexed.skipped.items ≢ 1
       → MakesIndex choice bytes sources folder (status_past made indexed.skipped.items) old new
-  done_index keeps_going (suc made) folder new least h set done = absurd (done (omega (arith, least)))
-  done_index keeps_going zero folder new least h set done = record {
+  done_index keeps_going (suc made) paths folder new least h set done = absurd (done (omega (arith, least)))
+  done_index keeps_going zero paths folder new least h set done = record {
     readings = h.readings;
     read = h.read;
     all = none_exactly h.readings h.read h.notes.0;
     indexed = indexed;
     is = h.notes.0;
-    made = set;
+    stands = stands_whole (MayLink ⊥ (IsPathAt sources)) folder indexed.plan indexed.picks.items old new
+        (copied_by (IsPathAt paths) (IsPathAt sources) folder indexed.plan indexed.picks.items old new set);
   }
 
 -- the answers are as many as the sources
@@ -200,16 +224,18 @@ answers_count sources old readings count many read = same readings ∙ read.coun
 
 -- what an index gives that goes on past sources that fail
 pub indexes_past : {S In E : Type 0} (supply : SupplyOf S In) (keeps_going : Bool) (choice : Choice) (bytes : ℕ)
-    (sources : List (List ℕ)) (old : Option Held) (start end : S) (r : Result PastFailures E)
-    → supply.sources start ≡ length sources → supply.contents start ≡ contents_by old sources → keeps_going ≡ true
+    (sources : List (List ℕ)) (texts : List (String Global)) (bad : List ℕ) (old : Option Held) (start end : S)
+    (r : Result PastFailures E) → HavePaths sources (words_of texts) bad
+    → supply.sources start ≡ length (words_of texts) → supply.contents start ≡ contents_by old (words_of texts) bad
+    → keeps_going ≡ true
     → IfOk r (λ past. NotesPast supply choice (limits_of bytes) most_of_source past start end)
     → IfOk r (λ past. Indexes keeps_going choice bytes sources old past.noted)
-indexes_past supply keeps_going choice bytes sources old start end (Ok past) many same keeps h = record {
+indexes_past supply keeps_going choice bytes sources texts bad old start end (Ok past) have many same keeps h = record {
   readings = h.0;
-  read = readings_are_read sources old h.0 _ _ _ _ (h.1.count ∙ many)
+  read = readings_are_read sources texts bad old h.0 _ _ _ _ have (h.1.count ∙ many)
       (subst (λ (contents : ℕ → Option (List ℕ)). AreReadings most_of_source contents h.0 (supply.refusals start)
       (supply.refusals end) (supply.unread start) (supply.unread end)) same h.1.right);
   all = λ none. absurd (true≢false (sym keeps ∙ none));
   notes = h.2;
 }
-indexes_past supply keeps_going choice bytes sources old start end (Err fault) many same keeps h = tt
+indexes_past supply keeps_going choice bytes sources texts bad old start end (Err fault) have many same keeps h = tt

@@ -1,12 +1,27 @@
 -- Files as sources: what they hold, and their counts.
-use Rattle.std.specs.Prelude.{ℕ, List, Option, slice_get, slice_index_or}
+use Rattle.std.specs.Prelude.{◌≡◌, ℕ, Bool, List, [], Option, Some, IfSome, if◌then◌else◌, nat_eq, option_map}
+use Rattle.std.specs.Prelude.{slice_get, slice_index_or, unwrap_or}
+use Rattle.std.specs.List.{list_any}
 use Rattle.std.specs.Option.{option_and_then}
 use Rattle.dd_files.specs.Files.{Held}
 use Rattle.dicomdir.specs.declared.source_counts.SourceCounts.{SourceCounts}
 
--- the bytes of the file at the path of a source
-abbrev pub contents_by : Option Held → List (List ℕ) → ℕ → Option (List ℕ)
-contents_by held paths at = option_and_then (λ files. option_and_then files.bytes_at (slice_get paths at)) held
+-- the file at the path has these bytes, where the files say what they hold
+abbrev pub HasBytes : List ℕ → List ℕ → Option Held → Type 0
+HasBytes path bytes files = IfSome files (λ held. held.bytes_at path ≡ Some bytes)
+
+-- the bytes of the file at the path; where none stands there, it counts as an empty file, which has no version
+abbrev pub contents_at : Option Held → List ℕ → Option (List ℕ)
+contents_at held path = option_map (λ files. unwrap_or (files.bytes_at path) []) held
+
+-- the number is one of these
+abbrev pub is_one : List ℕ → ℕ → Bool
+is_one numbers at = list_any (nat_eq at) numbers
+
+-- the bytes of a source, where these are the paths of all and the numbers of those that have none
+abbrev pub contents_by : Option Held → List (List ℕ) → List ℕ → ℕ → Option (List ℕ)
+contents_by held paths bad at =
+    if is_one bad at then Some [] else option_and_then (contents_at held) (slice_get paths at)
 
 -- the counts of a source that was not opened yet
 abbrev pub no_counts : SourceCounts

@@ -1,21 +1,24 @@
 -- What `index` makes of the files at its sources.
 use Rattle.std.specs.Prelude.{◌≡◌, ◌↔◌, ◌≤◌, ◌≢◌, ◌⊎◌, ℕ, zero, suc, List, Bool, true, false, Option, Result, Ok, Err, IfOk, IfSome, IsOk}
-use Rattle.std.specs.Prelude.{length, slice_get, if◌then◌else◌}
+use Rattle.std.specs.Prelude.{[], IfErr, length, slice_get, slice_index_or, if◌then◌else◌}
 use Rattle.std.specs.List.{AllByRecursion, list_any}
+use Rattle.std.specs.Str.{IsUtf8}
 use Rattle.dd_elem.specs.FileId.{max_rank}
 use Rattle.dd_engine.specs.declared.choice.Choice.{Choice}
 use Rattle.dd_engine.specs.declared.engine.Indexed.{Indexed}
 use Rattle.dd_engine.specs.declared.noted_index.NotedIndex.{NotedIndex}
 use Rattle.dd_engine.specs.Indexed.{IsIndexed}
 use Rattle.dd_engine.specs.IndexNotes.{NotesIndex}
+use Rattle.dd_engine.specs.Indexing.{Answer}
 use Rattle.dd_engine.specs.PastFailures.{IsOfOne, Reading, answers_of}
-use Rattle.dd_engine.specs.Supply.{IsAnswer}
+use Rattle.dd_engine.specs.Supply.{AnswersSource, IsOfSource}
 use Rattle.dd_files.specs.Files.{Held}
 use Rattle.dd_keys.specs.declared.fault.KeyFault.{KeyFault}
 use Rattle.dd_keys.specs.declared.fault.KeyFault.TheVariants.{Read}
 use Rattle.dd_layout.specs.Limits.{Limits}
-use Rattle.dicomdir.specs.FileSupply.{contents_by}
-use Rattle.dicomdir.specs.Made.{IsPathAt, MakesFileSet, MayLink}
+use Rattle.dicomdir.specs.FileSupply.{contents_at}
+use Rattle.dicomdir.specs.Made.{IsPathAt, MayLink}
+use Rattle.dicomdir.specs.Standing.{IfSaid, StandsWhole}
 
 -- the most bytes of a source
 abbrev pub most_of_source : ℕ
@@ -27,22 +30,28 @@ limits_of bytes = record { bytes = bytes; per_level = max_rank }
 
 -- ---- what was read
 
--- of a source with these bytes, where they are known, this is the answer, or its bytes could not be had
-abbrev pub IsRead : Option (List ℕ) → Reading → Type 0
-IsRead contents (Ok answer) = IsAnswer most_of_source contents answer
-IsRead contents (Err fault) = IsOfOne fault
+-- The answer for the file of the source of this name. A name that is not UTF-8 is no path, so it has no file.
+pub record AnswersName (files : Option Held) (name : List ℕ) (answer : Answer) : Type 0 where
+  pub settled : IfErr answer IsOfSource
+  pub path : IsUtf8 name → IfSome (contents_at files name) (λ file. AnswersSource most_of_source file answer)
+  pub none : ¬ IsUtf8 name → AnswersSource most_of_source [] answer
 
--- this was read of the files at these paths
+-- what was read of it: this answer, or its bytes could not be had
+abbrev pub IsRead : Option Held → List ℕ → Reading → Type 0
+IsRead files name (Ok answer) = AnswersName files name answer
+IsRead files name (Err fault) = IsOfOne fault
+
+-- this was read of the sources of these names
 pub record AreRead (sources : List (List ℕ)) (old : Option Held) (readings : List Reading) : Type 0 where
   pub count : length readings ≡ length sources
-  pub each : (at : ℕ) → IfSome (slice_get readings at) (IsRead (contents_by old sources at))
+  pub each : (at : ℕ) → IfSome (slice_get readings at) (IsRead old (slice_index_or sources at []))
 
 -- each source was opened and read to its end
 abbrev pub NoneFailed : List Reading → Type 0
 NoneFailed readings = AllByRecursion (λ reading. IsOk reading) readings
 
--- Of the files at these paths each was read, or where the run keeps going, could not be. The best of all versions that
--- they have is laid out under the label that is asked for.
+-- Each of these sources was read, or where the run keeps going, could not be. The best of all versions that they have is
+-- laid out under the label that is asked for.
 pub record Indexes (keeps_going : Bool) (choice : Choice) (bytes : ℕ) (sources : List (List ℕ)) (old : Option Held)
     (noted : NotedIndex) : Type 0 where
   pub readings : List Reading
@@ -71,7 +80,7 @@ IsIndexStatus keeps_going status = (status ≤ 1) ⊎ ((status ≡ 3) × (keeps_
 
 -- ---- what was made
 
--- The file-set of the layout was made in the folder, an image for each pick. The status is 0 exactly where each source
+-- The file-set of the layout stands in the folder, and each image is a copy. The status is 0 exactly where each source
 -- was opened and read to its end.
 pub record MakesIndex (choice : Choice) (bytes : ℕ) (sources : List (List ℕ)) (folder : List ℕ) (status : ℕ)
     (old new : Option Held) : Type 0 where
@@ -80,7 +89,7 @@ pub record MakesIndex (choice : Choice) (bytes : ℕ) (sources : List (List ℕ)
   pub all : (status ≡ 0) ↔ NoneFailed readings
   pub indexed : Indexed
   pub is : IsIndexed choice (limits_of bytes) (answers_of readings) indexed
-  pub made : MakesFileSet (MayLink ⊥ (IsPathAt sources)) folder indexed.plan indexed.picks.items old new
+  pub stands : IfSaid (StandsWhole (MayLink ⊥ (IsPathAt sources)) folder indexed.plan indexed.picks.items) old new
 
 -- `index` that is done has made this
 abbrev pub DoneIndexes : {E : Type 0} → Result ℕ E → Choice → ℕ → List (List ℕ) → List ℕ → Option Held → Option Held

@@ -4,6 +4,8 @@ pub mod DryRun
 pub mod EmptyPaths
 pub mod FileSupply
 pub mod Indexes
+pub mod Inspecting
+pub mod Lines
 pub mod ListedNames
 pub mod Made
 pub mod MaskedWords
@@ -12,6 +14,8 @@ pub mod Mistakes
 pub mod Names
 pub mod Noted
 pub mod Refusal
+pub mod Said
+pub mod Standing
 pub mod Sum
 pub mod Words
 pub use Rattle.dd_engine.specs.Choosing

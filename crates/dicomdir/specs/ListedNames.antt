@@ -1,12 +1,14 @@
 -- Lists of names in which a zero byte ends each name.
-use Rattle.std.specs.Prelude.{◌≡◌, ◌≢◌, ◌≤◌, ◌-◌, ◌⊎◌, ◌++◌, ◌==◌, ℕ, List, [], ◌∷◌, if◌then◌else◌}
-use Rattle.std.specs.Prelude.{All, Contains, None, length, max, slice_index_or}
+use Rattle.std.specs.Prelude.{◌≡◌, ◌≢◌, ◌<◌, ◌≤◌, ◌-◌, ◌⊎◌, ◌++◌, ◌==◌, ℕ, List, [], ◌∷◌, if◌then◌else◌}
+use Rattle.std.specs.Prelude.{All, Bool, Contains, None, Option, Some, false, length, max, option_map, slice_index_or}
+use Rattle.std.specs.Prelude.{string_bytes, true}
 use Rattle.std.specs.List.{AllWithin, flat_map, onto_first}
 use Rattle.std.specs.Str.{IsUtf8}
-use Rattle.std.specs.Prelude.{String}
-use Rattle.dd_line.specs.Line.{words_of}
+use Rattle.clap.specs.Words.{Text}
+use Rattle.dd_files.specs.Files.{Held}
 use Rattle.dd_line.specs.declared.request.Request.{Request}
 use Rattle.dd_line.specs.declared.request.Request.TheVariants.{Check, Index, List as ListSet, Merge, Withdraw}
+use Rattle.dicomdir.specs.FileSupply.{HasBytes}
 
 -- the parts of a list: a zero byte ends each, but the last one may end with the list
 abbrev pub parts : List ℕ → List (List ℕ)
@@ -24,26 +26,60 @@ pub record IsName (part : List ℕ) : Type 0 where
   pub some : part ≢ []
   pub utf8 : IsUtf8 part
 
--- one or more parts, each a name
-pub record AreNames (parts : List (List ℕ)) : Type 0 where
-  pub some : parts ≢ []
-  pub each : All IsName parts
+-- a part that a command takes: a name or, where it goes on past sources that fail, any part that is not empty
+abbrev pub IsListed : Bool → List ℕ → Type 0
+IsListed false part = IsName part
+IsListed true part = part ≢ []
 
--- the first part that is no name has this number, counted from 1; where there is no part, the number is 1
-pub record FailsAt (parts : List (List ℕ)) (number : ℕ) : Type 0 where
+-- one or more parts, each of which a command takes
+pub record AreNames (keeps_going : Bool) (parts : List (List ℕ)) : Type 0 where
+  pub some : parts ≢ []
+  pub each : All (IsListed keeps_going) parts
+
+-- the first part that it does not take has this number, counted from 1; where there is no part, the number is 1
+pub record FailsAt (keeps_going : Bool) (parts : List (List ℕ)) (number : ℕ) : Type 0 where
   pub counted : 1 ≤ number
   pub within : number ≤ max 1 (length parts)
-  pub before : AllWithin IsName parts 0 (number - 1)
-  pub fails : ¬ IsName (slice_index_or parts (number - 1) [])
+  pub before : AllWithin (IsListed keeps_going) parts 0 (number - 1)
+  pub fails : ¬ IsListed keeps_going (slice_index_or parts (number - 1) [])
 
--- the paths are the given ones, and after them the names of a list, in their order
-abbrev pub AreWithListed : {Z : Type 0} → List (String Z) → List (String Z) → Type 0
-AreWithListed given all = (list : List ℕ) × (words_of all ≡ words_of given ++ parts list)
+-- the path of the list of names that the request has
+abbrev pub list_of : Request → Option Text
+list_of (Index x) = option_map string_bytes x.sources.files0_from
+list_of (Merge x) = option_map string_bytes x.sets.files0_from
+list_of (Withdraw x) = None
+list_of (Check x) = None
+list_of (ListSet x) = None
 
--- the request names no list
-abbrev pub HasNoList : Request → Type 0
-HasNoList (Index x) = x.sources.files0_from ≡ None
-HasNoList (Merge x) = x.sets.files0_from ≡ None
-HasNoList (Withdraw x) = Unit {0}
-HasNoList (Check x) = Unit {0}
-HasNoList (ListSet x) = Unit {0}
+-- The sources of a command, in their order: the given ones and, where it has a list at this path, the names in it.
+abbrev pub AreSources : Bool → Option Text → List Text → Option Held → List Text → Type 0
+AreSources keeps_going None given files all = all ≡ given
+AreSources keeps_going (Some path) given files all = (list : List ℕ) × HasBytes path list files
+    × AreNames keeps_going (parts list) × (all ≡ given ++ parts list)
+
+-- the numbers rise
+abbrev pub AreRising : List ℕ → Type 0
+AreRising numbers = (one other : ℕ) → one ≤ other → other < length numbers
+    → slice_index_or numbers one 0 ≤ slice_index_or numbers other 0
+
+-- The paths of these sources: each is the name of its source. A name that is not UTF-8 is no path, and its number is one
+-- of these, which rise.
+pub record HavePaths (sources paths : List (List ℕ)) (bad : List ℕ) : Type 0 where
+  pub count : length paths ≡ length sources
+  pub named : (at : ℕ) → at < length sources → ¬ Contains bad at
+      → slice_index_or paths at [] ≡ slice_index_or sources at []
+  pub others : All (λ at. (at < length sources) × ¬ IsUtf8 (slice_index_or sources at [])) bad
+  pub rising : AreRising bad
+
+-- these are the paths of some sources
+abbrev pub AreOfSources : List Text → List ℕ → Type 0
+AreOfSources paths bad = (sources : List Text) × HavePaths sources paths bad
+
+-- What a command finds of its sources: their paths, and the numbers of those that have none. Only where it goes on past
+-- sources that fail may there be such.
+pub record FindsSources (keeps_going : Bool) (list : Option Text) (given : List Text) (files : Option Held)
+    (paths : List Text) (bad : List ℕ) : Type 0 where
+  pub sources : List Text
+  pub are : AreSources keeps_going list given files sources
+  pub have : HavePaths sources paths bad
+  pub none : keeps_going ≡ false → bad ≡ []

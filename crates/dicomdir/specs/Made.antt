@@ -1,7 +1,7 @@
 -- What a command that makes a file-set changes in files that tell what they hold: it makes the file of each image,
 -- record by record, and then the directory.
 use Rattle.std.specs.Prelude.{◌≡◌, ◌⊎◌, ◌<◌, ℕ, List, [], ◌∷◌, All, filter, zip, Option, None, Some, is_some}
-use Rattle.std.specs.Prelude.{IfOk, Result, codes, length, option_map, slice_get, slice_index_or}
+use Rattle.std.specs.Prelude.{IfSome, IsSome, codes, option_map, slice_get, slice_index_or}
 use Rattle.dd_dir.specs.Directories.{directory_of}
 use Rattle.dd_elem.specs.FileId.{Ranks, text_of}
 use Rattle.dd_engine.specs.declared.merge.Pick.{Pick}
@@ -18,26 +18,34 @@ use Rattle.dd_layout.specs.Plans.{records_of}
 abbrev pub IsPlace : List ℕ → Ranks → List ℕ → Type 0
 IsPlace folder file path = All (λ byte. byte < 128) (text_of file) → IsPathIn folder (id_path (text_of file)) path
 
--- a new file is being written there
+-- no file stands there
+abbrev pub IsFree : List ℕ → Option Held → Type 0
+IsFree path files = IfSome files (λ held. held.bytes_at path ≡ None)
+
+-- a new file is being written there, where none stood
 pub record StartsImage (folder : List ℕ) (file : Ranks) (old new : Option Held) : Type 0 where
   pub path : List ℕ
   pub place : IsPlace folder file path
+  pub free : IsFree path old
   pub started : new ≡ option_map (started path) old
 
--- a file of the planned version was made there, and all other files are as they were
+-- a file of the planned version was made there, where none stood, and all other files are as they were
 pub record CopiesImage (folder : List ℕ) (file : Ranks) (planned : Parts) (old new : Option Held) : Type 0 where
   pub path : List ℕ
   pub bytes : List ℕ
   pub place : IsPlace folder file path
+  pub free : IsFree path old
   pub is : IsFileAs planned AsPlanned bytes
   pub made : new ≡ option_map (published path bytes) old
 
--- a file at one of these paths has a hard link there, and all other files are as they were
+-- a file at one of these paths has a hard link there, where none stood, and all other files are as they were
 pub record LinksImage (From : List ℕ → Type 0) (folder : List ℕ) (file : Ranks) (old new : Option Held) : Type 0 where
   pub path : List ℕ
   pub from : List ℕ
   pub place : IsPlace folder file path
   pub picked : From from
+  pub there : IfSome old (λ held. IsSome (held.bytes_at from))
+  pub free : IsFree path old
   pub made : new ≡ option_map (linked from path) old
 
 -- the image was made: as a copy, or as a hard link to a file at one of these paths
@@ -100,24 +108,9 @@ pub record MakesFileSet {P : Type 0} (From : P → List ℕ → Type 0) (folder 
   pub images : MakesImages From folder plan.versions (records_of plan.label plan.versions) picks old copied
   pub path : List ℕ
   pub place : IsPathIn folder (codes "DICOMDIR") path
+  pub free : IsFree path copied
   pub directory : new ≡ option_map (published path (directory_of plan.label plan.versions plan.withdrawn)) copied
-
--- there is a pick for each record of the plan that has a file
-abbrev pub IsWhole : {P : Type 0} → Layout → List P → Type 0
-IsWhole plan picks = length picks ≡ length (filter (λ row. is_some row.file) (records_of plan.label plan.versions))
-
--- All images of some plan were made in the folder, in the order of its records, and then its directory. Each is a copy;
--- only where images get hard links may it be a hard link.
-pub record MakesSome (GivesLinks : Type 0) (folder : List ℕ) (old new : Option Held) : Type 0 where
-  pub plan : Layout
-  pub picks : List (Unit {0})
-  pub all : IsWhole plan picks
-  pub made : MakesFileSet (λ _ _. GivesLinks) folder plan picks old new
 
 -- the command did its work, whatever it found
 abbrev pub IsDone : ℕ → Type 0
 IsDone status = (status ≡ 0) ⊎ (status ≡ 3)
-
--- a command that is done has made some file-set in the folder
-abbrev pub DoneMakes : {E : Type 0} → Result ℕ E → Type 0 → List ℕ → Option Held → Option Held → Type 0
-DoneMakes r GivesLinks folder old new = IfOk r (λ status. IsDone status → MakesSome GivesLinks folder old new)

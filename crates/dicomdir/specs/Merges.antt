@@ -1,18 +1,20 @@
 -- What `merge` and `withdraw` make of file-sets.
-use Rattle.std.specs.Prelude.{◌≡◌, ℕ, List, [], ◌∷◌, Option, Some, Result, IfOk, IfSome, codes}
+use Rattle.std.specs.Prelude.{◌≡◌, ℕ, List, [], ◌∷◌, Option, Result, IfOk, codes}
 use Rattle.dd_engine.specs.declared.choice.Choice.{Choice}
 use Rattle.dd_engine.specs.declared.merge.Merged.{Merged}
 use Rattle.dd_engine.specs.Merging.{AreOwn, IsMerged, SetListing}
 use Rattle.dd_files.specs.Files.{Held}
 use Rattle.dd_files.specs.Paths.{IsPathIn}
+use Rattle.dicomdir.specs.FileSupply.{HasBytes}
 use Rattle.dicomdir.specs.Indexes.{limits_of}
-use Rattle.dicomdir.specs.Made.{IsMemberPath, MakesFileSet, MayLink}
+use Rattle.dicomdir.specs.Made.{IsMemberPath, MayLink}
+use Rattle.dicomdir.specs.Standing.{IfSaid, StandsWhole}
 
--- the directory of the file-set in the folder (PS3.10 section 8.6) has these bytes, where the files tell what they hold
+-- the directory of the file-set in the folder (PS3.10 section 8.6) has these bytes
 pub record HasDirectory (folder bytes : List ℕ) (files : Option Held) : Type 0 where
   pub path : List ℕ
   pub place : IsPathIn folder (codes "DICOMDIR") path
-  pub stands : IfSome files (λ held. held.bytes_at path ≡ Some bytes)
+  pub stands : HasBytes path bytes files
 
 -- the directories of the file-sets in these folders have these bytes, one for each
 abbrev pub AreDirectories : List (List ℕ) → List (List ℕ) → Option Held → Type 0
@@ -23,7 +25,7 @@ AreDirectories (folder ∷ folders) (bytes ∷ sets) files =
     HasDirectory folder bytes files × AreDirectories folders sets files
 
 -- Of what the directories in these folders list, without what they withdraw and the given UIDs, the best is laid out under
--- the label that is asked for. The file-set of this layout was made in the folder, an image for each pick.
+-- the label that is asked for. The file-set of this layout stands in the folder.
 pub record MakesMerge (choice : Choice) (bytes : ℕ) (given folders : List (List ℕ)) (GivesLinks : Type 0)
     (folder : List ℕ) (old new : Option Held) : Type 0 where
   pub sets : List (List ℕ)
@@ -32,7 +34,8 @@ pub record MakesMerge (choice : Choice) (bytes : ℕ) (given folders : List (Lis
   pub own : AreOwn sets listings
   pub merged : Merged
   pub is : IsMerged choice (limits_of bytes) given listings merged
-  pub made : MakesFileSet (MayLink GivesLinks (IsMemberPath folders)) folder merged.plan merged.picks.items old new
+  pub stands : IfSaid (StandsWhole (MayLink GivesLinks (IsMemberPath folders)) folder merged.plan merged.picks.items)
+      old new
 
 -- a merge that is done has made this
 abbrev pub DoneMerges : {E : Type 0} → Result ℕ E → Choice → ℕ → List (List ℕ) → List (List ℕ) → Type 0 → List ℕ

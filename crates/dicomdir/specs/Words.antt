@@ -1,12 +1,16 @@
 -- What the words of a command line name, and what becomes of a line that is read.
-use Rattle.std.specs.Prelude.{◌≡◌, ◌≤◌, ◌⊎◌, ℕ, List, Option, String, true, false}
+use Rattle.std.specs.Prelude.{◌≡◌, ◌≤◌, ◌⊎◌, ℕ, List, [], ◌∷◌, Option, String, string_bytes, true}
 use Rattle.clap.specs.Words.{Row, Text, subcommand_of, takes}
+use Rattle.dd_engine.specs.declared.choice.Choice.{Choice}
 use Rattle.dd_files.specs.Files.{Held}
-use Rattle.dd_line.specs.Line.{OnlyReads, dicomdir_app, words_of}
-use Rattle.dd_line.specs.Requests.{RequestsBadName, folder_of, is_dry, keeps_going, links, verb_of}
+use Rattle.dd_line.specs.Line.{dicomdir_app, words_of}
+use Rattle.dd_line.specs.Requests.{RequestsBadName, keeps_going, read_of, verb_of}
+use Rattle.dd_line.specs.declared.line.Verb.TheVariants as verbs
 use Rattle.dd_line.specs.declared.request.Request.{Request}
-use Rattle.dd_line.specs.declared.line.Verb.TheVariants.{Check}
-use Rattle.dicomdir.specs.Made.{MakesSome}
+use Rattle.dd_line.specs.declared.request.Request.TheVariants.{Check, Index, List as ListSet, Merge, Withdraw}
+use Rattle.dicomdir.specs.Indexes.{MakesIndex}
+use Rattle.dicomdir.specs.ListedNames.{AreSources, list_of}
+use Rattle.dicomdir.specs.Merges.{MakesMerge}
 
 -- the program takes the words
 abbrev pub IsTaken : {Z : Type 0} → List (String Z) → Type 0
@@ -18,7 +22,7 @@ line_of words = subcommand_of dicomdir_app (words_of words)
 
 -- the command finds something where it ends with 3: `check`, or an `index` that goes on past sources that fail
 abbrev pub MayFind : Request → Type 0
-MayFind r = (verb_of r ≡ Check) ⊎ (keeps_going r ≡ true)
+MayFind r = (verb_of r ≡ verbs.Check) ⊎ (keeps_going r ≡ true)
 
 -- a status that a run of this request may end with, once its line is read and its names are
 abbrev pub IsStatusOf : Request → ℕ → Type 0
@@ -32,8 +36,21 @@ pub record IsRequestStatus (request : Request) (status : ℕ) : Type 0 where
   pub bad : status ≡ 2 → RequestsBadName request
   pub good : status ≡ 0 → ¬ RequestsBadName request
 
--- unless the command only reads or only plans, some file-set was made in the folder of the request, with hard links only
--- where it asks for them
-abbrev pub MakesRequested : Request → Option Held → Option Held → Type 0
-MakesRequested r old new =
-    ¬ OnlyReads (verb_of r) → is_dry r ≡ false → MakesSome (links r ≡ true) (folder_of r) old new
+-- What a request makes of these sources, under this label and without these instances. Only `index` and `merge` may have
+-- sources that the line does not name.
+abbrev pub MakesOf : Request → Choice → List Text → List Text → ℕ → Option Held → Option Held → Type 0
+MakesOf (Index x) choice withdrawn sources status old new =
+    MakesIndex choice x.new_set.max_bytes sources (string_bytes x.new_set.out) status old new
+MakesOf (Merge x) choice withdrawn sources status old new =
+    MakesMerge choice x.new_set.max_bytes [] sources (x.link ≡ true) (string_bytes x.new_set.out) old new
+MakesOf (Withdraw x) choice withdrawn sources status old new = MakesMerge choice x.new_set.max_bytes withdrawn
+    (string_bytes x.set ∷ []) ⊥ (string_bytes x.new_set.out) old new
+MakesOf (Check x) choice withdrawn sources status old new = Unit {0}
+MakesOf (ListSet x) choice withdrawn sources status old new = Unit {0}
+
+-- what it makes of the paths that it reads and, after them, the names of its list
+pub record MakesRequested (r : Request) (choice : Choice) (withdrawn : List Text) (status : ℕ) (old new : Option Held)
+    : Type 0 where
+  pub sources : List Text
+  pub are : AreSources (keeps_going r) (list_of r) (words_of (read_of r)) old sources
+  pub made : MakesOf r choice withdrawn sources status old new

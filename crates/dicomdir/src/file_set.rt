@@ -2,7 +2,7 @@ ghost use Rattle.std.specs.Prelude.{◌≡◌, ℕ, All, IfErr, IsErr, IsOk, opt
 ghost use Rattle.dd_dir.specs.Directories.{directory_of};
 ghost use Rattle.dd_elem.specs.Device.{counted, HasFailed};
 ghost use Rattle.dd_files.specs.Files.{ended, grown, published, started};
-ghost use Rattle.dicomdir.specs.Made.{MakesFileSet, MayLink};
+ghost use Rattle.dicomdir.specs.Made.{IsFree, MakesFileSet, MayLink};
 ghost use Rattle.dicomdir.specs.Refusal.{IsBadLine, IsOfWork};
 
 use crate::copies::copy_images;
@@ -85,6 +85,7 @@ fn store<F: Files>(files: &mut F) -> Result<(), Refusal>
 #[tactic(auto, using(crate::proofs::Publishing::held_published))]
 fn make_directory<F: Files>(path: &str, plan: &Plan, files: &mut F) -> Result<(), ProgramFault>
     ensures line { IfErr result (λ fault. ¬ IsBadLine fault) }
+    ensures free { IsOk result → IsFree path.now (F.held files.old) }
     ensures holds { IsOk result → F.held files.new
         ≡ option_map
         (published path.now (directory_of plan.now.label plan.now.versions plan.now.withdrawn))
@@ -98,6 +99,7 @@ fn make_directory<F: Files>(path: &str, plan: &Plan, files: &mut F) -> Result<()
 fn start_directory<F: Files>(path: &str, files: &mut F) -> Result<(), ProgramFault>
     ensures refused { IsErr result → F.refusals files.new ≡ counted (F.refusals files.old) }
     ensures fault { IfErr result (λ fault. fault ≡ ProgramFault.Create) }
+    ensures free { IsOk result → IsFree path.now (F.held files.old) }
     ensures made { IsOk result
         → F.held files.new ≡ option_map (started path.now) (F.held files.old) }
 {

@@ -2,7 +2,8 @@
 ghost use Rattle.std.specs.Prelude.{◌≡◌, length, map, string_bytes, Option};
 ghost use Rattle.std.specs.Borrow.{GName};
 ghost use Rattle.dd_files.specs.Files.{Held};
-ghost use Rattle.dicomdir.specs.FileSupply.{contents_by, counts_at};
+ghost use Rattle.dicomdir.specs.FileSupply.{contents_by, counts_at, is_one};
+ghost use Rattle.dicomdir.specs.ListedNames.{AreRising};
 
 use crate::counted_reader::CountedReader;
 use crate::source_counts::SourceCounts;
@@ -16,6 +17,7 @@ pub(crate) struct FileSupply<'a, F: Files> {
     /// The numbers of the sources that have no path, in rising order: these are not there.
     bad_names: &'a [usize],
     ghost counted: { length counts.now ≡ length paths.now },
+    ghost rising: { AreRising bad_names.now },
 }
 
 // By hand, so that its contract says what becomes of the files.
@@ -40,11 +42,13 @@ impl<'a, F: Files> FileSupply<'a, F> {
         counts: &'a mut [SourceCounts],
         bad_names: &'a [usize],
     ) -> FileSupply<'a, F>
-        requires { length counts.old ≡ length paths.now }
+        requires counted { length counts.old ≡ length paths.now }
+        requires rising { AreRising bad_names.now }
         ensures reference { result.files.ghost_name ≡ files.entry.ghost_name }
         ensures files { result.files.now ≡ files.old }
         ensures paths { result.paths.now ≡ paths.now }
         ensures counts { result.counts.now ≡ counts.old }
+        ensures bad_names { result.bad_names.now ≡ bad_names.now }
     {
         FileSupply {
             files,
@@ -55,7 +59,11 @@ impl<'a, F: Files> FileSupply<'a, F> {
     }
 }
 
-fn contains(numbers: &[usize], at: usize) -> bool {
+#[tactic(auto, using(crate::proofs::BadNames::found))]
+fn contains(numbers: &[usize], at: usize) -> bool
+    requires { AreRising numbers.now }
+    ensures { result ≡ is_one numbers.now at }
+{
     numbers.binary_search(&at).is_ok()
 }
 
@@ -65,7 +73,8 @@ impl<F: Files + Progress> Supply for FileSupply<'_, F> {
     ghost sources = { λ s. length s.counts.now };
 
     ghost contents = { λ s.
-        contents_by (F.held s.files.now) (map (λ path. string_bytes path) s.paths.now) };
+        contents_by (F.held s.files.now) (map (λ path. string_bytes path) s.paths.now)
+        s.bad_names.now };
 
     ghost refusals = { λ s at. (counts_at s.counts.now at).refusals };
 

@@ -1,10 +1,13 @@
-ghost use Rattle.std.specs.Prelude.{◌≡◌, ◌≤◌, IfErr, IfOk, IsErr, IsOk, false, length, true};
+ghost use Rattle.std.specs.Prelude.{◌≡◌, ◌≤◌, ℕ, List, IfErr, IfOk, IsErr, IsOk, OnOk, false, length, true};
 ghost use Rattle.dd_elem.specs.Device.{HasFailed};
 ghost use Rattle.dd_engine.specs.Indexed.{IsNamed, IsWithin};
 ghost use Rattle.dd_engine.specs.Noting.{AreBelow, IsBelow};
 ghost use Rattle.dd_line.specs.Line.{words_of};
+ghost use Rattle.dd_report.specs.Text.{TakesText};
 ghost use Rattle.dicomdir.specs.Indexes.{DoneIndexes, Indexes, IsIndexStatus, has_failed, status_past};
+ghost use Rattle.dicomdir.specs.ListedNames.{AreOfSources, HavePaths};
 ghost use Rattle.dicomdir.specs.Refusal.{IsOfWork};
+ghost use Rattle.dicomdir.specs.Said.{SaysNotes};
 
 use crate::dates::show_dates;
 use crate::file_set::FileSet;
@@ -35,12 +38,15 @@ pub(crate) fn run_index<F: Files + Progress + Hints, O: Write>(
     files: &mut F,
     out: &mut O,
 ) -> Result<u8, Refusal>
+    requires { AreOfSources (words_of sources.now) making.bad_names.now }
     ensures refusal { IfErr result (IsOfWork (length sources.now)) }
     ensures status { IfOk result (IsIndexStatus making.entry.keep_going) }
     ensures dry { making.entry.dry_run ≡ true → F.held files.new ≡ F.held files.old }
-    ensures made { making.entry.dry_run ≡ false
-        → DoneIndexes result making.entry.names.now.choice making.entry.max_bytes
-        (words_of sources.now) making.entry.folder.now (F.held files.old) (F.held files.new) }
+    ensures made { (names : List (List ℕ))
+        → HavePaths names (words_of sources.now) making.entry.bad_names.now
+        → making.entry.dry_run ≡ false
+        → DoneIndexes result making.entry.names.now.choice making.entry.max_bytes names
+        making.entry.folder.now (F.held files.old) (F.held files.new) }
 {
     let mut sum = Sum::new();
     let done = index_sources(making, sources, &mut sum, files, out);
@@ -58,12 +64,15 @@ fn index_sources<F: Files + Progress + Hints, O: Write>(
     files: &mut F,
     out: &mut O,
 ) -> Result<u8, Refusal>
+    requires { AreOfSources (words_of sources.now) making.bad_names.now }
     ensures refusal { IfErr result (IsOfWork (length sources.now)) }
     ensures status { IfOk result (IsIndexStatus making.entry.keep_going) }
     ensures dry { making.entry.dry_run ≡ true → F.held files.new ≡ F.held files.old }
-    ensures made { making.entry.dry_run ≡ false
-        → DoneIndexes result making.entry.names.now.choice making.entry.max_bytes
-        (words_of sources.now) making.entry.folder.now (F.held files.old) (F.held files.new) }
+    ensures made { (names : List (List ℕ))
+        → HavePaths names (words_of sources.now) making.entry.bad_names.now
+        → making.entry.dry_run ≡ false
+        → DoneIndexes result making.entry.names.now.choice making.entry.max_bytes names
+        making.entry.folder.now (F.held files.old) (F.held files.new) }
 {
     let mut counts = counts_of(making.alloc, sources.len())?;
     files.begin_step(Step::Reading, sources.len() as u64);
@@ -123,6 +132,9 @@ fn tell_noted<O: Write>(
 ) -> fmt::Result
     requires within { IsWithin (length sources.now) past.now.noted.indexed }
     requires below { AreBelow (λ at. at) (length sources.now) past.now.noted.notes.left_out.items }
+    ensures told { OnOk result ((text : List ℕ)
+        × SaysNotes (words_of sources.now) past.now.noted text
+        × TakesText O.Write out.old out.new text) }
     ensures worked { IsOk result → O.failures out.new ≡ O.failures out.old }
     ensures failed { IsErr result → HasFailed (O.failures out.old) (O.failures out.new) }
 {
@@ -152,10 +164,12 @@ fn index_files<F: Files + Progress>(
     counts: &mut [SourceCounts],
     files: &mut F,
 ) -> Result<PastFailures, NotedFault<EngineFault, usize>>
-    requires { length counts.old ≡ length sources.now }
-    ensures answers { IfOk result (λ past. Indexes making.entry.keep_going
-        making.entry.names.now.choice making.entry.max_bytes (words_of sources.now)
-        (F.held files.old) past.noted) }
+    requires counted { length counts.old ≡ length sources.now }
+    requires named { AreOfSources (words_of sources.now) making.bad_names.now }
+    ensures answers { (names : List (List ℕ))
+        → HavePaths names (words_of sources.now) making.entry.bad_names.now
+        → IfOk result (λ past. Indexes making.entry.keep_going making.entry.names.now.choice
+        making.entry.max_bytes names (F.held files.old) past.noted) }
     ensures named { IfErr result (λ noted. IsNamed (length sources.now) noted.fault) }
     ensures conflict { IfErr result (λ noted. IsBelow (λ at. at) (length sources.now) noted.conflict) }
     ensures within { IfOk result (λ past. IsWithin (length sources.now) past.noted.indexed) }

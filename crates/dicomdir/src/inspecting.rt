@@ -1,6 +1,7 @@
 //! The commands that read one file-set.
-ghost use Rattle.std.specs.Prelude.{◌≡◌, ◌<◌, ◌≤◌, ◌⊎◌, ◌↔◌, ℕ, IfErr, IfOk, true};
-ghost use Rattle.dd_elem.specs.Device.{HasFailed};
+ghost use Rattle.std.specs.Prelude.{◌≡◌, ◌<◌, ◌≤◌, ◌⊎◌, ℕ, List, IfErr, IfOk};
+ghost use Rattle.dd_report.specs.Text.{FailsInText, TakesText};
+ghost use Rattle.dicomdir.specs.Inspecting.{ChecksSet, ListsSet, broken_line, comparison_by, form_by};
 ghost use Rattle.dicomdir.specs.Refusal.{IsOfWork};
 
 use crate::refusal::{Refusal, Words};
@@ -13,8 +14,7 @@ use dd_report::{Check, CheckFault, Comparison, Form, check_records, list_records
 use std::alloc::Global;
 
 pub(crate) fn comparison_of(check: &CheckRequest) -> Comparison
-    ensures keys { result.keys ≡ check.now.keys }
-    ensures strict { result.strict ≡ check.now.strict }
+    ensures { result ≡ comparison_by check.now.keys check.now.strict }
 {
     Comparison {
         keys: check.keys,
@@ -23,7 +23,7 @@ pub(crate) fn comparison_of(check: &CheckRequest) -> Comparison
 }
 
 pub(crate) fn form_of(list: &ListRequest) -> Form
-    ensures { (result ≡ Form.Long) ↔ (list.now.long ≡ true) }
+    ensures { result ≡ form_by list.now.long }
 {
     if list.long { Form::Long } else { Form::Short }
 }
@@ -37,6 +37,8 @@ pub(crate) fn run_check<F: Files + Progress, O: Write>(
 ) -> Result<u8, Refusal>
     ensures refusal { (paths : ℕ) → 0 < paths → IfErr result (IsOfWork paths) }
     ensures status { IfOk result (λ status. (status ≤ 1) ⊎ (status ≡ 3)) }
+    ensures checks { IfOk result (λ status. ChecksSet F.In.Read folder.now (F.held files.old)
+        comparison O.Write status (F.refusals files.old) (F.refusals files.new) out.old out.new) }
     ensures kept { F.held files.new ≡ F.held files.old }
 {
     let bytes = directory_bytes(alloc, 0, folder, files)?;
@@ -61,7 +63,10 @@ pub(crate) fn run_check<F: Files + Progress, O: Write>(
 /// Prints why a directory can't be read, as a finding, and gives the status.
 fn tell_broken<O: Write>(fault: &DirFault, out: &mut O) -> u8
     ensures status { (result ≡ 1) ⊎ (result ≡ 3) }
-    ensures failed { result ≡ 1 → HasFailed (O.failures out.old) (O.failures out.new) }
+    ensures printed { result ≡ 3 → (words : List ℕ)
+        × TakesText O.Write out.old out.new (broken_line words) }
+    ensures failed { result ≡ 1 → (words : List ℕ)
+        × FailsInText O.Write out.old out.new (broken_line words) }
 {
     let words = Words::of(fault);
     match print_line(&["BROKEN ", words.as_str()], out) {
@@ -79,6 +84,8 @@ pub(crate) fn run_list<F: Files, O: Write>(
 ) -> Result<u8, Refusal>
     ensures refusal { (paths : ℕ) → 0 < paths → IfErr result (IsOfWork paths) }
     ensures status { IfOk result (λ status. status ≤ 1) }
+    ensures lists { IfOk result (λ status. ListsSet O.Write form folder.now (F.held files.old)
+        status out.old out.new) }
     ensures kept { F.held files.new ≡ F.held files.old }
 {
     let bytes = directory_bytes(alloc, 0, folder, files)?;

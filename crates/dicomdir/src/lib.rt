@@ -15,6 +15,7 @@ mod image_path;
 mod images;
 mod index;
 mod inspecting;
+mod line_paths;
 mod line_refusal;
 mod links;
 mod listed_names;

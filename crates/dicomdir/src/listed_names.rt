@@ -1,11 +1,20 @@
-ghost use Rattle.std.specs.Prelude.{◌≡◌, ◌≢◌, ◌<◌, ◌≤◌, ◌++◌, ℕ, [], ◌∷◌, None, Err, length, map, string_bytes};
-ghost use Rattle.std.specs.Prelude.{IfOk, IfSome, IsOk, OnOk};
-ghost use Rattle.dicomdir.specs.ListedNames.{AreNames, FailsAt, IsListOf, IsName, parts};
+ghost use Rattle.std.specs.Prelude.{◌≡◌, ◌≢◌, ◌<◌, ◌≤◌, ◌+◌, ◌++◌, ℕ, List, [], ◌∷◌, None, Err, length, map};
+ghost use Rattle.std.specs.Prelude.{IfOk, IfSome, IsOk, OnOk, false, string_bytes, true};
+ghost use Rattle.dicomdir.specs.ListedNames.{AreNames, FailsAt, HavePaths, IsListOf, IsListed, IsName, parts};
 ghost use Rattle.dicomdir.specs.declared.listed_names.NamesFault.TheVariants as faults;
 
 use dd_elem::Memory;
 use std::alloc::Global;
 use std::str;
+
+/// The paths of a line and, after them, the names of its list.
+#[derive(Drop)]
+pub(crate) struct AllSources {
+    pub(crate) paths: Vec<String>,
+    /// The numbers of the names that are not UTF-8, in rising order. Each stands there as lines show it, and is no
+    /// path.
+    pub(crate) bad_names: Vec<usize>,
+}
 
 #[derive(Debug, Drop)]
 pub(crate) enum NamesFault {
@@ -23,74 +32,85 @@ impl From<Memory> for NamesFault {
     }
 }
 
-/// Reads the names of a list. A zero byte ends each name, but the last one may end with the list. A list without names
-/// is BadName 1. Each name is copied once.
-pub(crate) fn names_in(alloc: Global, list: &[u8]) -> Result<Vec<String>, NamesFault>
-    ensures names { IfOk result (λ names.
-        map (λ name. string_bytes name) names.items ≡ parts list.now) }
-    ensures good { IsOk result → AreNames (parts list.now) }
+/// Adds the names of a list. A zero byte ends each name, but the last one may end with the list. A list without names
+/// is BadName 1. So is a name that is empty or, unless the run keeps going, not UTF-8.
+pub(crate) fn add_names(
+    alloc: Global,
+    list: &[u8],
+    keep_going: bool,
+    all: &mut AllSources,
+) -> Result<(), NamesFault>
+    ensures paths { IsOk result → (given : List (List ℕ))
+        → HavePaths given (map (λ path. string_bytes path) all.old.paths.items)
+        all.old.bad_names.items
+        → HavePaths (given ++ parts list.now)
+        (map (λ path. string_bytes path) all.new.paths.items) all.new.bad_names.items }
+    ensures good { IsOk result → AreNames keep_going (parts list.now) }
     ensures bad { (number : ℕ) → result ≡ Err (NamesFault.BadName number)
-        → FailsAt (parts list.now) number }
+        → FailsAt keep_going (parts list.now) number }
     ensures listed { IsListOf (parts list.now) list.now }
+    ensures least { IsOk result → length all.old.paths.items ≤ length all.new.paths.items }
+    ensures none { IsOk result → keep_going ≡ false
+        → all.new.bad_names.items ≡ all.old.bad_names.items }
 {
-    let mut names = Vec::new(alloc);
-    let mut rest = list;
-    while !rest.is_empty() {
-        let (part, behind) = cut_first(rest);
-        let Some(name) = name_in(part) else {
-            return Err(NamesFault::BadName(names.len() + 1));
-        };
-        add(alloc, name, &mut names)?;
-        rest = behind;
-    }
-    if names.is_empty() {
+    if list.is_empty() {
         return Err(NamesFault::BadName(1));
     }
-    Ok(names)
+    let first = all.paths.len();
+    let mut rest = list;
+    while !rest.is_empty() {
+        let (part, later) = cut_first(rest);
+        if !add_name(alloc, part, keep_going, all)? {
+            return Err(NamesFault::BadName(all.paths.len() - first + 1));
+        }
+        rest = later;
+    }
+    Ok(())
 }
 
-/// Writes `?` over each byte outside 20H to 7EH of a name that is not UTF-8. Gives the numbers of these names, from
-/// `first` for the first name.
-pub(crate) fn mask_bad_names(
+/// Answers false where the part is no name that the run takes.
+fn add_name(
     alloc: Global,
-    list: &mut [u8],
-    first: usize,
-) -> Result<Vec<usize>, Memory>
-    ensures { length list.new ≡ length list.old }
+    part: &[u8],
+    keep_going: bool,
+    all: &mut AllSources,
+) -> Result<bool, Memory>
+    ensures paths { IfOk result (λ is_listed. is_listed ≡ true → (given : List (List ℕ))
+        → HavePaths given (map (λ path. string_bytes path) all.old.paths.items)
+        all.old.bad_names.items
+        → HavePaths (given ++ part.now ∷ [])
+        (map (λ path. string_bytes path) all.new.paths.items) all.new.bad_names.items) }
+    ensures count { IfOk result (λ is_listed. is_listed ≡ true
+        → length all.new.paths.items ≡ length all.old.paths.items + 1) }
+    ensures none { IsOk result → keep_going ≡ false
+        → all.new.bad_names.items ≡ all.old.bad_names.items }
+    ensures good { IfOk result (λ is_listed. is_listed ≡ true → IsListed keep_going part.now) }
+    ensures bad { IfOk result (λ is_listed. is_listed ≡ false
+        → ¬ IsListed keep_going part.now × (all.new ≡ all.old)) }
 {
-    let mut bad_names = Vec::new(alloc);
-    let mut number = first;
-    let mut start = 0;
-    while start < list.len() {
-        let end = end_of_name(list, start);
-        if str::from_utf8(&list[start..end]).is_err() {
-            mask_bytes(&mut list[start..end]);
-            bad_names.push(number)?;
+    match name_in(part) {
+        Some(name) => {
+            all.paths.push(String::from_str(alloc, name)?)?;
+            Ok(true)
         }
-        number = number.saturating_add(1);
-        start = end + 1;
+        None if keep_going && !part.is_empty() => {
+            let shown = masked(alloc, part)?;
+            all.bad_names.push(all.paths.len())?;
+            all.paths.push(shown)?;
+            Ok(true)
+        }
+        None => Ok(false),
     }
-    Ok(bad_names)
 }
 
-fn end_of_name(list: &[u8], start: usize) -> usize
-    requires { start < length list.now }
-    ensures { (start ≤ result) × (result ≤ length list.now) }
-{
-    match list[start..].iter().position(|byte| *byte == 0) {
-        Some(at) => start + at,
-        None => list.len(),
+/// Writes `?` for each byte outside 20H to 7EH.
+fn masked(alloc: Global, name: &[u8]) -> Result<String, Memory> {
+    let mut shown = String::with_capacity(alloc, name.len())?;
+    for byte in name {
+        let is_shown = (b' '..=b'~').contains(byte);
+        shown.push(if is_shown { char::from(*byte) } else { '?' })?;
     }
-}
-
-fn mask_bytes(name: &mut [u8])
-    ensures { length name.new ≡ length name.old }
-{
-    for byte in name.iter_mut() {
-        if !(b' '..=b'~').contains(byte) {
-            *byte = b'?';
-        }
-    }
+    Ok(shown)
 }
 
 fn cut_first(list: &[u8]) -> (&[u8], &[u8])
@@ -111,12 +131,4 @@ fn name_in(part: &[u8]) -> Option<&str>
         return None;
     }
     str::from_utf8(part).ok()
-}
-
-fn add(alloc: Global, name: &str, names: &mut Vec<String>) -> Result<(), Memory>
-    ensures { OnOk result (map (λ name. string_bytes name) names.new.items
-        ≡ map (λ name. string_bytes name) names.old.items ++ name.now ∷ []) }
-{
-    names.push(String::from_str(alloc, name)?)?;
-    Ok(())
 }

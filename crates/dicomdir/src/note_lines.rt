@@ -1,9 +1,13 @@
 //! Prints what a command says of its sources before it makes anything.
-ghost use Rattle.std.specs.Prelude.{◌≡◌, ◌↔◌, ◌<◌, ℕ, All, IfErr, IsErr, IsOk, IsTrue, length, true};
+ghost use Rattle.std.specs.Prelude.{◌≡◌, ◌↔◌, ◌<◌, ◌++◌, ℕ, List, All, IfErr, IsErr, IsOk, IsTrue, OnOk};
+ghost use Rattle.std.specs.Prelude.{length, true};
 ghost use Rattle.dd_elem.specs.Device.{HasFailed};
 ghost use Rattle.dd_engine.specs.Noting.{AreBelow, IsBelow};
+ghost use Rattle.dd_line.specs.Line.{words_of};
+ghost use Rattle.dd_report.specs.Text.{TakesText};
 ghost use Rattle.dicomdir.specs.Noted.{HasNotes};
 ghost use Rattle.dicomdir.specs.Refusal.{IsOfWork, IsStrict};
+ghost use Rattle.dicomdir.specs.Said.{AreLines, IsLeftOut, IsNames, IsNamesOf, IsSkip, left_out_line, shown_text};
 
 use crate::refusal::{ProgramFault, Refusal, Words};
 use crate::shown_path::{ShownFile, ShownPath};
@@ -14,6 +18,7 @@ use dd_layout::PlanFault;
 use dd_report::{print_line, show_line};
 use itoa::Buffer;
 use std::fmt::{self, InlineText};
+use std::str;
 
 /// The text of a UID: it has at most 64 characters (PS3.5 section 9.1).
 pub(crate) type UidText = InlineText<64>;
@@ -48,6 +53,9 @@ pub(crate) fn tell_skipped<O: Write>(
     out: &mut O,
 ) -> fmt::Result
     requires { All (λ skip. skip.0 < length sources.now) skipped.now }
+    ensures told { OnOk result ((text : List ℕ)
+        × AreLines (IsSkip (words_of sources.now)) skipped.now text
+        × TakesText O.Write out.old out.new text) }
     ensures worked { IsOk result → O.failures out.new ≡ O.failures out.old }
     ensures failed { IsErr result → HasFailed (O.failures out.old) (O.failures out.new) }
 {
@@ -69,6 +77,9 @@ pub(crate) fn tell_left_out<T: ShownFile, O: Write>(
     out: &mut O,
 ) -> fmt::Result
     requires { AreBelow T.number (length paths.now) left_out.now }
+    ensures told { OnOk result ((text : List ℕ)
+        × AreLines (IsLeftOut (T.shows (words_of paths.now))) left_out.now text
+        × TakesText O.Write out.old out.new text) }
     ensures worked { IsOk result → O.failures out.new ≡ O.failures out.old }
     ensures failed { IsErr result → HasFailed (O.failures out.old) (O.failures out.new) }
 {
@@ -86,15 +97,16 @@ fn tell_left_out_for<O: Write>(
     instance: &Uid,
     out: &mut O,
 ) -> fmt::Result
+    ensures told { OnOk result (TakesText O.Write out.old out.new
+        (left_out_line (shown_text file.entry) (shown_text kept.entry) instance.now)) }
     ensures worked { IsOk result → O.failures out.new ≡ O.failures out.old }
     ensures failed { IsErr result → HasFailed (O.failures out.old) (O.failures out.new) }
 {
     let (one, other) = (file.inside, kept.inside);
-    let uid = UidText::of(instance);
     print_left_out(
         (file.folder, file.joint, one.as_str()),
         (kept.folder, kept.joint, other.as_str()),
-        uid.as_str(),
+        uid_text(instance),
         out,
     )
 }
@@ -105,6 +117,9 @@ fn print_left_out<O: Write>(
     uid: &str,
     out: &mut O,
 ) -> fmt::Result
+    ensures told { OnOk result (TakesText O.Write out.old out.new (left_out_line
+        (file.entry.0.now ++ (file.entry.1.now ++ file.entry.2.now))
+        (kept.entry.0.now ++ (kept.entry.1.now ++ kept.entry.2.now)) uid.now)) }
     ensures worked { IsOk result → O.failures out.new ≡ O.failures out.old }
     ensures failed { IsErr result → HasFailed (O.failures out.old) (O.failures out.new) }
 {
@@ -128,8 +143,21 @@ fn print_left_out<O: Write>(
     )
 }
 
+/// Gives the characters of a UID.
+#[tactic(auto, using(dd_elem::proofs::UidText::IsUtf8_from_IsUid))]
+pub(crate) fn uid_text(uid: &Uid) -> &str
+    ensures { result.now ≡ uid.now }
+{
+    match str::from_utf8(uid.as_bytes()) {
+        Ok(text) => text,
+        Err(_) => "",
+    }
+}
+
 /// Prints the Patient IDs that have more than one name.
 pub(crate) fn tell_names<O: Write>(patients: &[PatientNames], out: &mut O) -> fmt::Result
+    ensures told { OnOk result ((text : List ℕ) × AreLines IsNames patients.now text
+        × TakesText O.Write out.old out.new text) }
     ensures worked { IsOk result → O.failures out.new ≡ O.failures out.old }
     ensures failed { IsErr result → HasFailed (O.failures out.old) (O.failures out.new) }
 {
@@ -141,6 +169,8 @@ pub(crate) fn tell_names<O: Write>(patients: &[PatientNames], out: &mut O) -> fm
 
 /// Prints the line of a patient, with at most ten names.
 fn tell_names_of<O: Write>(patient: &PatientNames, out: &mut O) -> fmt::Result
+    ensures told { OnOk result ((line : List ℕ) × IsNames patient.now line
+        × TakesText O.Write out.old out.new line) }
     ensures worked { IsOk result → O.failures out.new ≡ O.failures out.old }
     ensures failed { IsErr result → HasFailed (O.failures out.old) (O.failures out.new) }
 {
@@ -151,6 +181,8 @@ fn tell_names_of<O: Write>(patient: &PatientNames, out: &mut O) -> fmt::Result
 }
 
 fn print_names<O: Write>(id: &[u8], count: &[u8], names: &[Key], out: &mut O) -> fmt::Result
+    ensures told { OnOk result ((line : List ℕ) × IsNamesOf id.now line
+        × TakesText O.Write out.old out.new line) }
     ensures worked { IsOk result → O.failures out.new ≡ O.failures out.old }
     ensures failed { IsErr result → HasFailed (O.failures out.old) (O.failures out.new) }
 {

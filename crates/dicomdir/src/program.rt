@@ -1,28 +1,35 @@
 //! The program's run.
-ghost use Rattle.std.specs.Prelude.{◌≡◌, ◌≤◌, ◌<◌, ◌⊎◌, ◌↔◌, IfErr, IfOk, length, true, false};
+ghost use Rattle.std.specs.Prelude.{◌≡◌, ◌≤◌, ◌<◌, ◌⊎◌, ◌↔◌, ℕ, List, [], IfErr, IfOk, length, true, false};
 ghost use Rattle.dd_line.specs.Line.{HasBadLimit, HasBadName, IsCheck, IsReading, LacksSources, OnlyReads};
-ghost use Rattle.dd_line.specs.Requests.{folder_of, is_dry, links, read_of, verb_of};
-ghost use Rattle.dicomdir.specs.DryRun.{HasDryRun, HasKeepGoing, HasLink, first_path};
+ghost use Rattle.dd_line.specs.Line.{words_of};
+ghost use Rattle.dd_line.specs.Requests.{id_of, instances_of, is_dry, keeps_going, read_of, uid_of};
+ghost use Rattle.dd_line.specs.Requests.{verb_of};
+ghost use Rattle.dicomdir.specs.DryRun.{HasDryRun, HasKeepGoing};
 ghost use Rattle.dicomdir.specs.EmptyPaths.{HasEmptyPath, RequestsEmptyPath};
-ghost use Rattle.dicomdir.specs.Made.{DoneMakes, IsDone, MakesSome};
+ghost use Rattle.dicomdir.specs.Inspecting.{ChecksSet, IsList, ListsSet, PrintsRequested, comparison_in, first_path};
+ghost use Rattle.dicomdir.specs.Inspecting.{form_in};
+ghost use Rattle.dicomdir.specs.Lines.{IndexesLine, IsIndex, IsMerge, IsWithdraw, MergesLine, WithdrawsLine};
+ghost use Rattle.dicomdir.specs.ListedNames.{AreOfSources, HavePaths};
+ghost use Rattle.dicomdir.specs.Made.{IsDone};
+ghost use Rattle.dicomdir.specs.Names.{choice_by};
 ghost use Rattle.dicomdir.specs.Refusal.{IsAmong, IsBadLine, IsOfWork};
-ghost use Rattle.dicomdir.specs.Words.{IsRequestStatus, IsStatusOf, IsTaken, MakesRequested, line_of};
+ghost use Rattle.dicomdir.specs.Words.{IsRequestStatus, IsStatusOf, IsTaken, MakesOf, MakesRequested, line_of};
 
 use crate::empty_paths::empty_path;
 use crate::hints::print_hints;
 use crate::index::run_index;
 use crate::inspecting::{comparison_of, form_of, run_check, run_list};
+use crate::line_paths::{LinePaths, list_of, paths_of};
 use crate::line_refusal::refuse_line;
 use crate::making::Making;
 use crate::merging::{run_merge, run_withdraw};
 use crate::names::{Names, names_of};
 use crate::refusal::{Paths, Refusal, tell};
-use crate::source_paths::all_sources;
+use crate::source_paths::{all_sources, bad_names_in, paths_or};
 use dd_elem::Write;
 use dd_files::{Files, Hints, Progress};
 use dd_line::{Request, read_request};
 use std::alloc::Global;
-use std::slice;
 
 #[derive(Clone, Copy)]
 struct Work<'a> {
@@ -30,14 +37,6 @@ struct Work<'a> {
     names: &'a Names,
     /// The numbers of the sources whose names are not UTF-8, in rising order.
     bad_names: &'a [usize],
-}
-
-/// The paths that a command works on.
-#[derive(Clone, Copy)]
-struct LinePaths<'a> {
-    /// The folder that it writes to, if it does, and else empty.
-    folder: &'a str,
-    sources: &'a [String],
 }
 
 /// Runs a command line, the first word being the program's name, and answers the status:
@@ -105,13 +104,29 @@ pub fn run<F: Files + Progress + Hints, O: Write, E: Write>(
     ensures dry { IsTaken words.items → HasDryRun (line_of words.items)
         → F.held files.new ≡ F.held files.old }
 
-    // Where they say that, some file-set in the first path: all images of a plan, in the order of its records, and then
-    // its directory. Each image is a copy, a file of the version that is planned there. Only with `--link` may it be a
-    // hard link to a file.
-    ensures made { IsDone result → IsTaken words.items
-        → ¬ IsReading (line_of words.items) → ¬ HasDryRun (line_of words.items)
-        → MakesSome (HasLink (line_of words.items)) (first_path (line_of words.items))
-        (F.held files.old) (F.held files.new) }
+    // Where they say that, the file-set that the words ask for stands in OUT: all images of its plan and its directory,
+    // at paths where no file stood. Each image is a file of the version that is planned there; only with `--link` may
+    // it have the bytes of the picked file, whatever these are. All other files are as they were.
+    ensures indexes { IsDone result → IsTaken words.items → IsIndex (line_of words.items)
+        → ¬ HasDryRun (line_of words.items)
+        → IndexesLine (line_of words.items) result (F.held files.old) (F.held files.new) }
+    ensures merges { result ≡ 0 → IsTaken words.items → IsMerge (line_of words.items)
+        → ¬ HasDryRun (line_of words.items)
+        → MergesLine (line_of words.items) (F.held files.old) (F.held files.new) }
+    ensures withdraws { result ≡ 0 → IsTaken words.items → IsWithdraw (line_of words.items)
+        → ¬ HasDryRun (line_of words.items)
+        → WithdrawsLine (line_of words.items) (F.held files.old) (F.held files.new) }
+
+    // Where they say that, `list` has read the directory in the folder and sent its listing, and `check` has sent what
+    // it found of each file, or that the directory can't be read.
+    ensures lists { result ≡ 0 → IsTaken words.items → IsList (line_of words.items)
+        → ListsSet O.Write (form_in (line_of words.items)) (first_path (line_of words.items))
+        (F.held files.old) result out.old out.new }
+    ensures checks { IsDone result → IsTaken words.items → IsCheck (line_of words.items)
+        → ChecksSet F.In.Read (first_path (line_of words.items)) (F.held files.old)
+        (comparison_in (line_of words.items)) O.Write result
+        (F.refusals files.old) (F.refusals files.new) out.old out.new }
+
     ensures done { result ≡ 0 → err.new ≡ err.old }
 {
     match read_request(alloc, words.as_slice()) {
@@ -135,8 +150,11 @@ fn run_request<F: Files + Progress + Hints, O: Write, E: Write>(
     ensures done { result ≡ 0 → err.new ≡ err.old }
     ensures kept { OnlyReads (verb_of request.now) → F.held files.new ≡ F.held files.old }
     ensures dry { is_dry request.now ≡ true → F.held files.new ≡ F.held files.old }
-    ensures made { IsDone result
-        → MakesRequested request.now (F.held files.old) (F.held files.new) }
+    ensures made { is_dry request.now ≡ false → IsDone result
+        → MakesRequested request.now (choice_by (id_of request.now) (uid_of request.now))
+        (words_of (instances_of request.now)) result (F.held files.old) (F.held files.new) }
+    ensures printed { IsDone result → PrintsRequested F.In.Read O.Write request.now
+        (F.held files.old) result (F.refusals files.old) (F.refusals files.new) out.old out.new }
 {
     let names = match names_of(alloc, request) {
         Ok(names) => names,
@@ -172,30 +190,24 @@ fn run_named<F: Files + Progress + Hints, O: Write, E: Write>(
     ensures kept { OnlyReads (verb_of work.entry.request.now)
         → F.held files.new ≡ F.held files.old }
     ensures dry { is_dry work.entry.request.now ≡ true → F.held files.new ≡ F.held files.old }
-    ensures made { IsDone result
-        → MakesRequested work.entry.request.now (F.held files.old) (F.held files.new) }
+    ensures made { is_dry work.entry.request.now ≡ false → IsDone result
+        → MakesRequested work.entry.request.now work.entry.names.now.choice
+        work.entry.names.now.withdrawn.items result (F.held files.old) (F.held files.new) }
+    ensures printed { IsDone result → PrintsRequested F.In.Read O.Write work.entry.request.now
+        (F.held files.old) result (F.refusals files.old) (F.refusals files.new) out.old out.new }
 {
     let request = work.request;
-    if is_quiet(request) {
-        files.silence();
-    }
+    silence_quiet(request, files);
     let given = paths_of(request);
     let listed = match all_sources(alloc, request, files) {
         Ok(listed) => listed,
         Err(refusal) => return tell_refusal(&refusal, request, given, files, err),
     };
-    let sources = match &listed {
-        Some(all) => all.paths.as_slice(),
-        None => given.sources,
-    };
-    let bad_names: &[usize] = match &listed {
-        Some(all) => all.bad_names.as_slice(),
-        None => &[],
-    };
+    let sources = paths_or(&listed, given.sources);
     let named = Work {
         request,
         names: work.names,
-        bad_names,
+        bad_names: bad_names_in(&listed),
     };
     let paths = LinePaths {
         folder: given.folder,
@@ -204,6 +216,15 @@ fn run_named<F: Files + Progress + Hints, O: Write, E: Write>(
     match run_verb(alloc, named, sources, files, out) {
         Ok(status) => status,
         Err(refusal) => tell_refusal(&refusal, request, paths, files, err),
+    }
+}
+
+fn silence_quiet<F: Files + Progress>(request: &Request, files: &mut F)
+    ensures kept { F.held files.new ≡ F.held files.old }
+    ensures unrefused { F.refusals files.new ≡ F.refusals files.old }
+{
+    if is_quiet(request) {
+        files.silence();
     }
 }
 
@@ -291,53 +312,6 @@ fn tell_empty<F: Hints, E: Write>(
     tell_with_hints(refusal, request, paths, files, err)
 }
 
-fn paths_of(request: &Request) -> LinePaths<'_>
-    ensures folder { result.folder.now ≡ folder_of request.now }
-    ensures sources { result.sources.now ≡ read_of request.now }
-{
-    LinePaths {
-        folder: folder_in(request),
-        sources: sources_in(request),
-    }
-}
-
-/// Gives an empty path where no file-set is made.
-fn folder_in(request: &Request) -> &str
-    ensures { result.now ≡ folder_of request.now }
-{
-    match request {
-        Request::Index(index) => index.new_set.out.as_str(),
-        Request::Merge(merge) => merge.new_set.out.as_str(),
-        Request::Withdraw(withdraw) => withdraw.new_set.out.as_str(),
-        Request::Check(_) | Request::List(_) => "",
-    }
-}
-
-fn sources_in(request: &Request) -> &[String]
-    ensures { result.now ≡ read_of request.now }
-{
-    match request {
-        Request::Index(index) => index.sources.words.as_slice(),
-        Request::Merge(merge) => merge.sets.words.as_slice(),
-        Request::Withdraw(withdraw) => slice::from_ref(&withdraw.set),
-        Request::Check(check) => slice::from_ref(&check.set),
-        Request::List(list) => slice::from_ref(&list.set),
-    }
-}
-
-/// Gives an empty path where the line names no list.
-fn list_of(request: &Request) -> &str {
-    let sources = match request {
-        Request::Index(index) => &index.sources,
-        Request::Merge(merge) => &merge.sets,
-        Request::Withdraw(_) | Request::Check(_) | Request::List(_) => return "",
-    };
-    match &sources.files0_from {
-        Some(list) => list.as_str(),
-        None => "",
-    }
-}
-
 /// Runs the command on these sources, of which the line itself gives the first.
 fn run_verb<F: Files + Progress + Hints, O: Write>(
     alloc: Global,
@@ -346,7 +320,8 @@ fn run_verb<F: Files + Progress + Hints, O: Write>(
     files: &mut F,
     out: &mut O,
 ) -> Result<u8, Refusal>
-    requires { length (read_of work.request.now) ≤ length sources.now }
+    requires least { length (read_of work.request.now) ≤ length sources.now }
+    requires named { AreOfSources (words_of sources.now) work.bad_names.now }
     ensures refusal { IfErr result (IsOfWork (length sources.now)) }
     ensures status { IfOk result (λ status. IsStatusOf work.entry.request.now status) }
 
@@ -354,10 +329,17 @@ fn run_verb<F: Files + Progress + Hints, O: Write>(
         → F.held files.new ≡ F.held files.old }
     ensures dry { is_dry work.entry.request.now ≡ true → F.held files.new ≡ F.held files.old }
 
-    ensures made { ¬ OnlyReads (verb_of work.entry.request.now)
-        → is_dry work.entry.request.now ≡ false
-        → DoneMakes result (links work.entry.request.now ≡ true)
-        (folder_of work.entry.request.now) (F.held files.old) (F.held files.new) }
+    ensures made { (names : List (List ℕ))
+        → HavePaths names (words_of sources.now) work.entry.bad_names.now
+        → (keeps_going work.entry.request.now ≡ false → work.entry.bad_names.now ≡ [])
+        → is_dry work.entry.request.now ≡ false → IfOk result (λ status. IsDone status
+        → MakesOf work.entry.request.now work.entry.names.now.choice
+        work.entry.names.now.withdrawn.items names status
+        (F.held files.old) (F.held files.new)) }
+
+    ensures printed { IfOk result (λ status. PrintsRequested F.In.Read O.Write
+        work.entry.request.now (F.held files.old) status
+        (F.refusals files.old) (F.refusals files.new) out.old out.new) }
 {
     let Work {
         request,

@@ -1,4 +1,4 @@
-ghost use Rattle.std.specs.Prelude.{◌≡◌, ◌<◌, ℕ, IfErr, IfOk, length, map};
+ghost use Rattle.std.specs.Prelude.{◌≡◌, ◌<◌, ℕ, IfErr, IfOk, IsOk, length, map};
 ghost use Rattle.dd_line.specs.Line.{words_of};
 ghost use Rattle.dicomdir.specs.Merges.{AreDirectories, HasDirectory};
 ghost use Rattle.dicomdir.specs.Refusal.{IsOfWork};
@@ -43,6 +43,7 @@ pub(crate) fn directory_bytes<F: Files>(
     ensures refusal { (paths : ℕ) → at < paths → IfErr result (IsOfWork paths) }
     ensures read { IfOk result (λ bytes.
         HasDirectory folder.now bytes.items (F.held files.old)) }
+    ensures worked { IsOk result → F.refusals files.new ≡ F.refusals files.old }
     ensures kept { F.held files.new ≡ F.held files.old }
 {
     let path = path_in(alloc, folder, DIRECTORY)?;

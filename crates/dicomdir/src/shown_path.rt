@@ -1,4 +1,6 @@
-ghost use Rattle.std.specs.Prelude.{◌<◌, ℕ, length};
+ghost use Rattle.std.specs.Prelude.{◌≡◌, ◌<◌, ℕ, List, length};
+ghost use Rattle.dd_line.specs.Line.{words_of};
+ghost use Rattle.dicomdir.specs.Said.{ShowsMember, path_at, shown_text};
 
 use crate::image_path::{IdPath, PathText};
 use dd_engine::Pick;
@@ -20,25 +22,33 @@ pub(crate) trait ShownFile {
     // The number of the source, or of the file-set.
     ghost number: { Self → ℕ };
 
+    // How its path prints, where these are the paths.
+    ghost shows: { List (List ℕ) → Self → List ℕ → Type 0 };
+
     /// Gives its path. `paths` are the sources, or the folders of the file-sets.
     fn path_among<'a>(&self, paths: &'a [String]) -> ShownPath<'a>
-        requires { number self.now < length paths.now };
+        requires { number self.now < length paths.now }
+        ensures { shows (words_of paths.now) self.now (shown_text result) };
 }
 
 impl ShownFile for usize {
     ghost number = { λ at. at };
 
+    ghost shows = { λ paths at text. text ≡ path_at paths at };
+
     fn path_among<'a>(&self, paths: &'a [String]) -> ShownPath<'a> {
         ShownPath {
             folder: paths[*self].as_str(),
             joint: "",
-            inside: PathText::of(&IdPath(b"")),
+            inside: PathText::new(),
         }
     }
 }
 
 impl ShownFile for Pick<'_> {
     ghost number = { λ pick. pick.set };
+
+    ghost shows = { λ folders pick text. ShowsMember folders pick text };
 
     fn path_among<'a>(&self, paths: &'a [String]) -> ShownPath<'a> {
         let folder = paths[self.set].as_str();

@@ -1,24 +1,37 @@
-ghost use Rattle.std.specs.Prelude.{◌≡◌, ◌≤◌, ◌++◌, ℕ, None, IfErr, IfOk, IfSome, length};
-ghost use Rattle.dd_line.specs.Line.{words_of};
-ghost use Rattle.dd_line.specs.Requests.{read_of};
-ghost use Rattle.dicomdir.specs.ListedNames.{AreWithListed, HasNoList, parts};
+ghost use Rattle.std.specs.Prelude.{◌≡◌, ◌≤◌, ◌++◌, ℕ, [], IfErr, IfOk, IsOk, false, length, option_map, string_bytes};
+ghost use Rattle.std.specs.Option.{option_map_or};
+ghost use Rattle.dd_line.specs.Line.{OnlyReads, words_of};
+ghost use Rattle.dd_line.specs.Requests.{keeps_going, read_of, verb_of};
+ghost use Rattle.dicomdir.specs.FileSupply.{HasBytes};
+ghost use Rattle.dicomdir.specs.ListedNames.{AreNames, FindsSources, HavePaths, list_of, parts};
 ghost use Rattle.dicomdir.specs.Refusal.{IsOfWork};
 
 use crate::file_set::refuse_taken;
-use crate::listed_names::{NamesFault, mask_bad_names, names_in};
+use crate::listed_names::{AllSources, NamesFault, add_names};
 use crate::refusal::{ProgramFault, Refusal, Subject};
 use dd_elem::Memory;
 use dd_files::{Files, ReadFault, SOURCE_LIMIT, read_whole};
 use dd_line::{Request, Sources};
 use std::alloc::Global;
 
-/// The paths of a line and, after them, the names of its list.
-#[derive(Drop)]
-pub(crate) struct AllSources {
-    pub(crate) paths: Vec<String>,
-    /// The numbers of the names that are not UTF-8, in rising order. Each stands there as lines show it, and is no
-    /// path.
-    pub(crate) bad_names: Vec<usize>,
+/// Gives the paths of all sources: the given ones, where there is no list.
+pub(crate) fn paths_or<'a>(listed: &'a Option<AllSources>, given: &'a [String]) -> &'a [String]
+    ensures { result.now ≡ option_map_or (λ all. all.paths.items) listed.now given.now }
+{
+    match listed {
+        Some(all) => all.paths.as_slice(),
+        None => given,
+    }
+}
+
+/// Gives the numbers of the names that are no paths.
+pub(crate) fn bad_names_in(listed: &Option<AllSources>) -> &[usize]
+    ensures { result.now ≡ option_map_or (λ all. all.bad_names.items) listed.now [] }
+{
+    match listed {
+        Some(all) => all.bad_names.as_slice(),
+        None => &[],
+    }
 }
 
 /// Lists the paths that a request with a list of names reads: the paths of its line, and then the names. None if it has
@@ -30,11 +43,13 @@ pub(crate) fn all_sources<F: Files>(
     files: &mut F,
 ) -> Result<Option<AllSources>, Refusal>
     ensures refusal { (paths : ℕ) → IfErr result (IsOfWork paths) }
-    ensures none { HasNoList request.now → IfOk result (λ listed. listed ≡ None) }
-    ensures all { IfOk result (λ listed.
-        IfSome listed (λ all. AreWithListed (read_of request.now) all.paths.items)) }
-    ensures least { IfOk result (λ listed.
-        IfSome listed (λ all. length (read_of request.now) ≤ length all.paths.items)) }
+    ensures listed { IfOk result (λ listed. FindsSources (keeps_going request.now)
+        (list_of request.now) (words_of (read_of request.now)) (F.held files.old)
+        (words_of (option_map_or (λ all. all.paths.items) listed (read_of request.now)))
+        (option_map_or (λ all. all.bad_names.items) listed [])) }
+    ensures least { IfOk result (λ listed. length (read_of request.now)
+        ≤ length (option_map_or (λ all. all.paths.items) listed (read_of request.now))) }
+    ensures unread { OnlyReads (verb_of request.now) → F.refusals files.new ≡ F.refusals files.old }
     ensures kept { F.held files.new ≡ F.held files.old }
 {
     if let Some(set) = request.new_set() {
@@ -43,7 +58,9 @@ pub(crate) fn all_sources<F: Files>(
     match request {
         Request::Index(index) => { listed_sources(alloc, &index.sources, index.keep_going, files) }
         Request::Merge(merge) => listed_sources(alloc, &merge.sets, false, files),
-        Request::Withdraw(_) | Request::Check(_) | Request::List(_) => Ok(None),
+        Request::Withdraw(_) => Ok(None),
+        Request::Check(_) => Ok(None),
+        Request::List(_) => Ok(None),
     }
 }
 
@@ -54,25 +71,21 @@ fn listed_sources<F: Files>(
     files: &mut F,
 ) -> Result<Option<AllSources>, Refusal>
     ensures refusal { (paths : ℕ) → IfErr result (IsOfWork paths) }
-    ensures none { sources.now.files0_from ≡ None → IfOk result (λ listed. listed ≡ None) }
-    ensures all { IfOk result (λ listed.
-        IfSome listed (λ all. AreWithListed sources.now.words.items all.paths.items)) }
-    ensures least { IfOk result (λ listed.
-        IfSome listed (λ all. length sources.now.words.items ≤ length all.paths.items)) }
+    ensures listed { IfOk result (λ listed. FindsSources keep_going
+        (option_map string_bytes sources.now.files0_from)
+        (words_of sources.now.words.items) (F.held files.old)
+        (words_of (option_map_or (λ all. all.paths.items) listed sources.now.words.items))
+        (option_map_or (λ all. all.bad_names.items) listed [])) }
+    ensures least { IfOk result (λ listed. length sources.now.words.items
+        ≤ length (option_map_or (λ all. all.paths.items) listed sources.now.words.items)) }
     ensures kept { F.held files.new ≡ F.held files.old }
 {
     match &sources.files0_from {
         None => Ok(None),
         Some(list) => {
-            let words = sources.words.as_slice();
-            let mut bytes = list_bytes(alloc, list.as_str(), files)?;
-            let bad_names = if keep_going {
-                mask_bad_names(alloc, &mut bytes, words.len())?
-            } else {
-                Vec::new(alloc)
-            };
-            let paths = with_listed(alloc, words, &bytes)?;
-            Ok(Some(AllSources { paths, bad_names }))
+            let bytes = list_bytes(alloc, list.as_str(), files)?;
+            let all = with_listed(alloc, sources.words.as_slice(), &bytes, keep_going)?;
+            Ok(Some(all))
         }
     }
 }
@@ -81,6 +94,7 @@ fn listed_sources<F: Files>(
 /// than 4,294,967,295 bytes.
 fn list_bytes<F: Files>(alloc: Global, path: &str, files: &mut F) -> Result<Vec<u8>, Refusal>
     ensures refusal { (paths : ℕ) → IfErr result (IsOfWork paths) }
+    ensures read { IfOk result (λ bytes. HasBytes path.now bytes.items (F.held files.old)) }
     ensures kept { F.held files.new ≡ F.held files.old }
 {
     let Ok(mut reader) = files.names(path) else {
@@ -94,22 +108,27 @@ fn list_bytes<F: Files>(alloc: Global, path: &str, files: &mut F) -> Result<Vec<
     }
 }
 
-fn with_listed(alloc: Global, given: &[String], list: &[u8]) -> Result<Vec<String>, Refusal>
+fn with_listed(
+    alloc: Global,
+    given: &[String],
+    list: &[u8],
+    keep_going: bool,
+) -> Result<AllSources, Refusal>
     ensures refusal { (paths : ℕ) → IfErr result (IsOfWork paths) }
-    ensures all { IfOk result (λ all. words_of all.items ≡ words_of given.now ++ parts list.now) }
-    ensures least { IfOk result (λ all. length given.now ≤ length all.items) }
+    ensures names { IsOk result → AreNames keep_going (parts list.now) }
+    ensures paths { IfOk result (λ all. HavePaths (words_of given.now ++ parts list.now)
+        (words_of all.paths.items) all.bad_names.items) }
+    ensures none { keep_going ≡ false → IfOk result (λ all. all.bad_names.items ≡ []) }
+    ensures least { IfOk result (λ all. length given.now ≤ length all.paths.items) }
 {
-    let mut listed = match names_in(alloc, list) {
-        Ok(listed) => listed,
-        Err(NamesFault::Memory) => return Err(Refusal::memory()),
-        Err(NamesFault::BadName(at)) => {
-            return Err(Refusal::of(Subject::List, ProgramFault::BadName(at)));
-        }
+    let mut all = AllSources {
+        paths: copies_of(alloc, given)?,
+        bad_names: Vec::new(alloc),
     };
-    let mut all = copies_of(alloc, given)?;
-    match all.append(&mut listed) {
+    match add_names(alloc, list, keep_going, &mut all) {
         Ok(()) => Ok(all),
-        Err(_) => Err(Refusal::memory()),
+        Err(NamesFault::Memory) => Err(Refusal::memory()),
+        Err(NamesFault::BadName(at)) => Err(Refusal::of(Subject::List, ProgramFault::BadName(at))),
     }
 }
 

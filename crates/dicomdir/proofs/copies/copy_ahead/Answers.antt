@@ -14,6 +14,7 @@ returns-in-Ok-clause-made g c = λ done.
       path = start.path;
       bytes = bytes;
       place = start.place;
+      free = start.free;
       is = subst (λ (filed : Filed). IsFileAs c.args.image.now.planned.now filed bytes)
           (c.end_copy.ensures.planned done)
           sent.1.0;

@@ -14,6 +14,7 @@ returns-in-Ok-clause-made g c = λ done.
       path = start.path;
       bytes = h.given;
       place = start.place;
+      free = rw c.in_ok-reader.ensures.kept at start.free;
       is = subst (λ (filed : Filed). IsFileAs c.args.image.now.planned.now filed h.given)
           (c.end_copy.ensures.planned done)
           h.answered.0;

@@ -10,6 +10,7 @@ returns-clause-made g c = λ done. record {
   place =
       let is = c.in_ok-path.ensures in
       rw c.as_str.ensures.value (record { bare = is.bare; ended = is.ended; apart = is.apart });
+  free = rw (c.in_ok-store.ensures.kept, c.folder.ensures.kept) at c.in-Ok.ensures.free cc;
   directory = c.hide_line.ensures.kept ∙ c.in_ok-store-2.ensures.kept
       ∙ (rw (c.in_ok-store.ensures.kept, c.folder.ensures.kept) at c.in-Ok.ensures.holds cc);
 }

@@ -3,7 +3,7 @@ use Rattle.std.proofs.Common.{◌∙◌, ap, length, map}
 use Rattle.dd_line.specs.Line.{words_of}
 use Rattle.dicomdir.specs.Made.{IsMemberPath}
 use Rattle.dicomdir.proofs.EngineMade.{done_merges, only_one}
-use Rattle.dicomdir.proofs.SomeMade.{unlinked_done}
+use Rattle.dicomdir.proofs.Unlinked.{unlinked_done}
 use Rattle.dicomdir.proofs.merging.withdraw_of.Goals as goal
 
 pub returns-clause-made : goal.returns-clause-made

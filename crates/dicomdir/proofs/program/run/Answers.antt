@@ -1,16 +1,18 @@
-use Rattle.std.proofs.Common.{◌≡◌, ◌≤◌, ℕ, arith, inl, inr, subst, sym}
+use Rattle.std.proofs.Common.{◌≤◌, ℕ, arith, inl, inr, subst, sym}
 use Rattle.std.specs.Prelude.{◌⊎◌}
-use Rattle.dd_line.specs.Line.{HasBadLimit, HasBadName, IsCheck, IsReading, LacksSources, OnlyReads}
-use Rattle.dd_line.specs.Requests.{verb_of}
+use Rattle.dd_line.specs.Line.{HasBadLimit, HasBadName, IsCheck, IsReading, LacksSources}
 use Rattle.dd_line.proofs.RequestLemmas.{given_bad, requested_bad, requested_check, requested_reads}
-use Rattle.dicomdir.specs.DryRun.{HasDryRun, HasKeepGoing, HasLink, first_path}
+use Rattle.dicomdir.specs.DryRun.{HasDryRun, HasKeepGoing}
 use Rattle.dicomdir.specs.EmptyPaths.{HasEmptyPath}
-use Rattle.dicomdir.specs.Made.{IsDone, MakesSome}
+use Rattle.dicomdir.specs.Inspecting.{ChecksSet, IsList, ListsSet, comparison_in, first_path, form_in}
+use Rattle.dicomdir.specs.Lines.{IndexesLine, IsIndex, IsMerge, IsWithdraw, MergesLine, WithdrawsLine}
+use Rattle.dicomdir.specs.Made.{IsDone}
 use Rattle.dicomdir.specs.Words.{IsTaken, line_of}
 use Rattle.dicomdir.proofs.DryRuns.{given_keep_going, requested_dry, requested_work}
 use Rattle.dicomdir.proofs.EmptyWords.{requested_empty}
+use Rattle.dicomdir.proofs.InspectedLines.{requested_checks, requested_lists}
+use Rattle.dicomdir.proofs.LinesMade.{given_index, given_merge, given_withdraw}
 use Rattle.dicomdir.proofs.LinesRefused.{taken_lacks, taken_mistake}
-use Rattle.dicomdir.proofs.SomeMade.{requested_makes}
 use Rattle.dicomdir.proofs.program.run.Goals as goal
 
 -- ---- a line that is read
@@ -58,18 +60,57 @@ returns-in-Ok-clause-dry g c = λ _ has.
     c.run_request.ensures.dry (requested_dry c.in-Ok.request _ c.in-Ok.ensures.request
     (subst (λ words. HasDryRun (line_of words)) (sym c.as_slice.ensures.value) has))
 
-pub returns-in-Ok-clause-made : goal.returns-in-Ok-clause-made
-returns-in-Ok-clause-made g c = λ is _ writes works.
+pub returns-in-Ok-clause-indexes : goal.returns-in-Ok-clause-indexes
+returns-in-Ok-clause-indexes g c = λ done _ names works.
     let found = line_of c.as_slice.result.now in
     let read = c.in-Ok.ensures.request in
-    let makes : ¬ OnlyReads (verb_of c.in-Ok.request) =
-    λ reads. writes (subst (λ words. IsReading (line_of words)) c.as_slice.ensures.value
-    ((requested_reads c.in-Ok.request found read).0 reads)) in
-    subst (λ words. MakesSome (HasLink (line_of words)) (first_path (line_of words))
-    (g.F.Files.held c.args.files.now) (g.F.Files.held c.run_request.new.files)) c.as_slice.ensures.value
-    (requested_makes c.in-Ok.request found _ _ read makes (c.run_request.ensures.made is makes
-    (requested_work c.in-Ok.request found read
-    (λ dry. works (subst (λ words. HasDryRun (line_of words)) c.as_slice.ensures.value dry)))))
+    let works = subst (λ words. ¬ HasDryRun (line_of words)) (sym c.as_slice.ensures.value) works in
+    let names = subst (λ words. IsIndex (line_of words)) (sym c.as_slice.ensures.value) names in
+    subst (λ words. IndexesLine (line_of words) c.run_request.result (g.F.Files.held c.args.files.now)
+    (g.F.Files.held c.run_request.new.files)) c.as_slice.ensures.value
+    (given_index c.in-Ok.request found _ _ _ read names
+    (c.run_request.ensures.made (requested_work c.in-Ok.request found read works) done))
+
+pub returns-in-Ok-clause-merges : goal.returns-in-Ok-clause-merges
+returns-in-Ok-clause-merges g c = λ done _ names works.
+    let found = line_of c.as_slice.result.now in
+    let read = c.in-Ok.ensures.request in
+    let works = subst (λ words. ¬ HasDryRun (line_of words)) (sym c.as_slice.ensures.value) works in
+    let names = subst (λ words. IsMerge (line_of words)) (sym c.as_slice.ensures.value) names in
+    subst (λ words. MergesLine (line_of words) (g.F.Files.held c.args.files.now)
+    (g.F.Files.held c.run_request.new.files)) c.as_slice.ensures.value
+    (given_merge c.in-Ok.request found _ _ _ read names
+    (c.run_request.ensures.made (requested_work c.in-Ok.request found read works) (inl done)))
+
+pub returns-in-Ok-clause-withdraws : goal.returns-in-Ok-clause-withdraws
+returns-in-Ok-clause-withdraws g c = λ done _ names works.
+    let found = line_of c.as_slice.result.now in
+    let read = c.in-Ok.ensures.request in
+    let works = subst (λ words. ¬ HasDryRun (line_of words)) (sym c.as_slice.ensures.value) works in
+    let names = subst (λ words. IsWithdraw (line_of words)) (sym c.as_slice.ensures.value) names in
+    subst (λ words. WithdrawsLine (line_of words) (g.F.Files.held c.args.files.now)
+    (g.F.Files.held c.run_request.new.files)) c.as_slice.ensures.value
+    (given_withdraw c.in-Ok.request found _ _ _ read names
+    (c.run_request.ensures.made (requested_work c.in-Ok.request found read works) (inl done)))
+
+pub returns-in-Ok-clause-lists : goal.returns-in-Ok-clause-lists
+returns-in-Ok-clause-lists g c = λ is _ lists.
+    subst (λ words. ListsSet g.O.Write (form_in (line_of words)) (first_path (line_of words))
+    (g.F.Files.held c.args.files.now) c.run_request.result c.args.out.now c.run_request.new.out)
+    c.as_slice.ensures.value
+    (requested_lists g.F.In.Read g.O.Write _ _ _ _ _ _ c.in-Ok.request _ c.in-Ok.ensures.request
+    (subst (λ words. IsList (line_of words)) (sym c.as_slice.ensures.value) lists)
+    (c.run_request.ensures.printed (inl is)))
+
+pub returns-in-Ok-clause-checks : goal.returns-in-Ok-clause-checks
+returns-in-Ok-clause-checks g c = λ is _ checks.
+    subst (λ words. ChecksSet g.F.In.Read (first_path (line_of words)) (g.F.Files.held c.args.files.now)
+    (comparison_in (line_of words)) g.O.Write c.run_request.result (g.F.Files.refusals c.args.files.now)
+    (g.F.Files.refusals c.run_request.new.files) c.args.out.now c.run_request.new.out)
+    c.as_slice.ensures.value
+    (requested_checks g.F.In.Read g.O.Write _ _ _ _ _ _ c.in-Ok.request _ c.in-Ok.ensures.request
+    (subst (λ words. IsCheck (line_of words)) (sym c.as_slice.ensures.value) checks)
+    (c.run_request.ensures.printed is))
 
 -- ---- a line that is refused
 
@@ -108,10 +149,35 @@ returns-clause-empty g c = λ taken _.
     let amiss = c.refuse_line.ensures.mistake (taken_mistake c.in-Err.fault _ _ (c.in-Err.ensures.passes still)) in
     (amiss.0, cc, amiss.1)
 
-pub returns-clause-made : goal.returns-clause-made
-returns-clause-made g c = λ is taken _ _.
+pub returns-clause-indexes : goal.returns-clause-indexes
+returns-clause-indexes g c = λ is taken _ _.
     let still = subst (λ words. IsTaken words) (sym c.as_slice.ensures.value) taken in
     let amiss = c.refuse_line.ensures.mistake (taken_mistake c.in-Err.fault _ _ (c.in-Err.ensures.passes still)) in
-    absurd {A = MakesSome (HasLink (line_of c.args.words.items)) (first_path (line_of c.args.words.items))
-    (g.F.Files.held c.args.files.now) (g.F.Files.held c.args.files.now)}
-    (refused_line c.refuse_line.result is amiss.0 c.refuse_line.ensures.status)
+    absurd {A = IndexesLine (line_of c.args.words.items) c.refuse_line.result (g.F.Files.held c.args.files.now)
+    (g.F.Files.held c.args.files.now)} (refused_line c.refuse_line.result is amiss.0 c.refuse_line.ensures.status)
+
+pub returns-clause-merges : goal.returns-clause-merges
+returns-clause-merges g c = λ is taken _ _.
+    let still = subst (λ words. IsTaken words) (sym c.as_slice.ensures.value) taken in
+    let amiss = c.refuse_line.ensures.mistake (taken_mistake c.in-Err.fault _ _ (c.in-Err.ensures.passes still)) in
+    absurd {A = MergesLine (line_of c.args.words.items) (g.F.Files.held c.args.files.now)
+    (g.F.Files.held c.args.files.now)} (omega (arith, is, amiss.0))
+
+pub returns-clause-withdraws : goal.returns-clause-withdraws
+returns-clause-withdraws g c = λ is taken _ _.
+    let still = subst (λ words. IsTaken words) (sym c.as_slice.ensures.value) taken in
+    let amiss = c.refuse_line.ensures.mistake (taken_mistake c.in-Err.fault _ _ (c.in-Err.ensures.passes still)) in
+    absurd {A = WithdrawsLine (line_of c.args.words.items) (g.F.Files.held c.args.files.now)
+    (g.F.Files.held c.args.files.now)} (omega (arith, is, amiss.0))
+
+pub returns-clause-lists : goal.returns-clause-lists
+returns-clause-lists g c = λ is taken _.
+    let still = subst (λ words. IsTaken words) (sym c.as_slice.ensures.value) taken in
+    let amiss = c.refuse_line.ensures.mistake (taken_mistake c.in-Err.fault _ _ (c.in-Err.ensures.passes still)) in
+    absurd (refused_line c.refuse_line.result (inl is) amiss.0 c.refuse_line.ensures.status)
+
+pub returns-clause-checks : goal.returns-clause-checks
+returns-clause-checks g c = λ is taken _.
+    let still = subst (λ words. IsTaken words) (sym c.as_slice.ensures.value) taken in
+    let amiss = c.refuse_line.ensures.mistake (taken_mistake c.in-Err.fault _ _ (c.in-Err.ensures.passes still)) in
+    absurd (refused_line c.refuse_line.result is amiss.0 c.refuse_line.ensures.status)

@@ -3,3 +3,21 @@ use Rattle.dicomdir.proofs.program.run_named.Goals as goal
 
 pub tell_refusal-requires : goal.tell_refusal-requires
 tell_refusal-requires g c = c.in-Err.ensures.refusal (length c.paths_of-given.result.sources.now)
+
+-- What is made is of the sources that the line and its list give.
+pub returns-in-Ok-run_verb-clause-made : goal.returns-in-Ok-run_verb-clause-made
+returns-in-Ok-run_verb-clause-made g c = λ makes done.
+    let found = rw c.silence_quiet.ensures.kept at c.in-Ok.ensures.listed in
+    record {
+      sources = found.sources;
+      are = found.are;
+      made = rw (c.all_sources.ensures.kept, c.silence_quiet.ensures.kept) at
+          c.in-Ok-run_verb.ensures.made found.sources
+          (rw (c.paths_or-sources.ensures, c.paths_of-given.ensures.sources, c.bad_names_in.ensures) found.have)
+          (rw c.bad_names_in.ensures found.none) makes done;
+    }
+
+pub run_verb-requires-clause-named : goal.run_verb-requires-clause-named
+run_verb-requires-clause-named g c =
+    let found = c.in-Ok.ensures.listed in
+    (found.sources, rw (c.paths_or-sources.ensures, c.paths_of-given.ensures.sources, c.bad_names_in.ensures) found.have)

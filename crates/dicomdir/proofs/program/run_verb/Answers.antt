@@ -1,24 +1,30 @@
--- What a command made of its sources or sets is some file-set. `index` and `withdraw` give no hard links.
-use Rattle.std.proofs.Common.{◌≡◌, ◌∙◌, false, true}
+-- A command is done where it has made its file-set: of the folder, the label and the limit of its request.
+use Rattle.std.proofs.Common.{◌∙◌, refl}
+use Rattle.dd_line.specs.Line.{words_of}
+use Rattle.dicomdir.proofs.HavingPaths.{all_named}
 use Rattle.dicomdir.specs.declared.refusal.Refusal.{Refusal}
-use Rattle.dicomdir.proofs.SomeMade.{done_by, index_makes, merge_makes}
+use Rattle.dicomdir.proofs.LinesMade.{index_done, merge_done}
 use Rattle.dicomdir.proofs.program.run_verb.Goals as goal
 
 pub returns-in-Index-clause-made : goal.returns-in-Index-clause-made
-returns-in-Index-clause-made g c = rw c.in-Index.is (λ _ makes.
-    done_by c.run_index.result ⊥ (false ≡ true) _ _ _ (λ none. absurd none)
-    (index_makes {E = Refusal} c.run_index.result _ _ _ _ _ _
-    (rw c.of-making.ensures.folder at c.run_index.ensures.made (c.of-making.ensures.dry ∙ makes))))
+returns-in-Index-clause-made g c = rw c.in-Index.is (λ names have none makes.
+    let of = c.of-making.ensures in
+    index_done {E = Refusal} c.run_index.result _ _ _ _ _ _
+    (rw (of.folder, of.names, of.limit) at c.run_index.ensures.made names have (of.dry ∙ makes)))
 
 pub returns-in-Merge-clause-made : goal.returns-in-Merge-clause-made
-returns-in-Merge-clause-made g c = rw c.in-Merge.is (λ _ makes.
-    merge_makes {E = Refusal} c.run_merge.result _ _ _ _ _ _ _ _ c.run_merge.ensures.status
-    (rw (c.of-making-in-Merge.ensures.folder, c.of-making-in-Merge.ensures.link) at
-    c.run_merge.ensures.made (c.of-making-in-Merge.ensures.dry ∙ makes)))
+returns-in-Merge-clause-made g c = rw c.in-Merge.is (λ names have none makes.
+    let of = c.of-making-in-Merge.ensures in
+    let same = all_named names (words_of c.args.sources.now) (rw (none refl) at have) in
+    merge_done {E = Refusal} c.run_merge.result _ _ _ _ _ _ _ _ c.run_merge.ensures.status
+    (rw (same, of.folder, of.names, of.limit, of.link) at c.run_merge.ensures.made (of.dry ∙ makes)))
 
 pub returns-in-Withdraw-clause-made : goal.returns-in-Withdraw-clause-made
-returns-in-Withdraw-clause-made g c = rw c.in-Withdraw.is (λ _ makes.
-    done_by c.run_withdraw.result ⊥ (false ≡ true) _ _ _ (λ none. absurd none)
-    (merge_makes {E = Refusal} c.run_withdraw.result _ _ _ _ ⊥ _ _ _ c.run_withdraw.ensures.status
-    (rw c.of-making-in-Withdraw.ensures.folder at c.run_withdraw.ensures.made
-    (c.of-making-in-Withdraw.ensures.dry ∙ makes))))
+returns-in-Withdraw-clause-made g c = rw c.in-Withdraw.is (λ names have none makes.
+    let of = c.of-making-in-Withdraw.ensures in
+    merge_done {E = Refusal} c.run_withdraw.result _ _ _ _ ⊥ _ _ _ c.run_withdraw.ensures.status
+    (rw (of.folder, of.names, of.limit) at c.run_withdraw.ensures.made (of.dry ∙ makes)))
+
+pub returns-in-Check-clause-printed : goal.returns-in-Check-clause-printed
+returns-in-Check-clause-printed g c =
+    rw c.in-Check.is (rw (c.as_str.ensures.value, c.comparison_of.ensures) at c.run_check.ensures.checks)

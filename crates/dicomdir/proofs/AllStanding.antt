@@ -1,0 +1,206 @@
+-- A file-set that was made, image by image and then its directory, stands whole.
+use Rattle.std.proofs.Common.{◌≡◌, ◌∙◌, ℕ, List, [], ◌∷◌, Option, None, Some, ap, inl, inr, refl, subst, sym}
+use Rattle.std.specs.Prelude.{◌⊎◌, IsSome, option_map}
+use Rattle.dd_dir.specs.Directories.{directory_of}
+use Rattle.dd_elem.specs.FileId.{Ranks}
+use Rattle.dd_files.proofs.FileLaws.{file_here, file_there}
+use Rattle.dd_files.specs.Files.{Held, linked, published, with_file}
+use Rattle.dd_filing.specs.declared.agreeing.Filed.TheVariants.{AsPlanned}
+use Rattle.dd_filing.specs.Filing.{IsFileAs}
+use Rattle.dd_version.specs.declared.parts.Parts.{Parts}
+use Rattle.dd_layout.specs.declared.record.PlanRecord.{PlanRecord}
+use Rattle.dd_layout.specs.Layouts.{Layout}
+use Rattle.dicomdir.specs.Made.{IsFree, IsPlace, MakesFileSet, MakesImage, MakesRows}
+use Rattle.dicomdir.specs.Standing.{AllStand, HasAtOne, IfSaid, IsOfOne, KeepsAll, StandsWhole, picked_rows}
+
+-- ---- one new file
+
+-- a path where no file stood is another one than a path where one did
+free_apart : (held : Held) (path other bytes : List ℕ) → held.bytes_at path ≡ None → held.bytes_at other ≡ Some bytes
+    → path ≡ other → ⊥
+free_apart held path other bytes free stood same =
+    let amiss : None ≡ Some bytes = sym free ∙ ap held.bytes_at same ∙ stood in absurd (cc)
+
+-- a file that was made where none stood leaves the others
+new_keeps : (old new : Held) (path : List ℕ) (file : Option (List ℕ))
+    → new.bytes_at ≡ with_file path file old.bytes_at → old.bytes_at path ≡ None → KeepsAll old new
+new_keeps old new path file is free = record {
+  stays = λ other had stood. ap (λ (files : List ℕ → Option (List ℕ)). files other) is
+      ∙ file_there path other file old.bytes_at (free_apart old path other had free stood) ∙ stood;
+}
+
+keeps_then : (a b c : Held) → KeepsAll a b → KeepsAll b c → KeepsAll a c
+keeps_then a b c one two = record { stays = λ path bytes stood. two.stays path bytes (one.stays path bytes stood) }
+
+-- where no file stands now, none stood before
+free_before : (old new : Held) (path : List ℕ) → KeepsAll old new → new.bytes_at path ≡ None → old.bytes_at path ≡ None
+free_before old new path keeps free = go (old.bytes_at path) refl
+  where
+    go : (file : Option (List ℕ)) → old.bytes_at path ≡ file → old.bytes_at path ≡ None
+    go None is = is
+    go (Some bytes) is =
+        let amiss : None ≡ Some bytes = sym free ∙ keeps.stays path bytes is in absurd (cc)
+
+-- ---- one image
+
+some_bytes : (file : Option (List ℕ)) → IsSome file → (bytes : List ℕ) × (file ≡ Some bytes)
+some_bytes None some = absurd (cc)
+some_bytes (Some bytes) some = (bytes, refl)
+
+-- the image is the one new file
+record OneStands (From : List ℕ → Type 0) (folder : List ℕ) (file : Ranks) (planned : Parts) (old : Held)
+    (new : Option Held) : Type 0 where
+  after : Held
+  is : new ≡ Some after
+  path : List ℕ
+  place : IsPlace folder file path
+  free : old.bytes_at path ≡ None
+  bytes : List ℕ
+  made : after.bytes_at ≡ with_file path (Some bytes) old.bytes_at
+  kind : IsFileAs planned AsPlanned bytes ⊎ HasAtOne From bytes old
+
+one_stands : (From : List ℕ → Type 0) (folder : List ℕ) (file : Ranks) (planned : Parts) (old : Held)
+    (new : Option Held) → MakesImage From folder file planned (Some old) new
+    → OneStands From folder file planned old new
+one_stands From folder file planned old new (inl copied) = record {
+  after = published copied.path copied.bytes old;
+  is = copied.made;
+  path = copied.path;
+  place = copied.place;
+  free = copied.free;
+  bytes = copied.bytes;
+  made = refl;
+  kind = inl copied.is;
+}
+one_stands From folder file planned old new (inr link) =
+    let some = some_bytes (old.bytes_at link.from) link.there in
+    record {
+      after = linked link.from link.path old;
+      is = link.made;
+      path = link.path;
+      place = link.place;
+      free = link.free;
+      bytes = some.0;
+      made = ap (λ (file : Option (List ℕ)). with_file link.path file old.bytes_at) some.1;
+      kind = inr (record { from = link.from; picked = link.picked; there = some.1 });
+    }
+
+kind_later : (From : List ℕ → Type 0) (planned : Parts) (bytes : List ℕ) (old new : Held) → KeepsAll old new
+    → IsFileAs planned AsPlanned bytes ⊎ HasAtOne From bytes old
+    → IsFileAs planned AsPlanned bytes ⊎ HasAtOne From bytes new
+kind_later From planned bytes old new keeps (inl is) = inl is
+kind_later From planned bytes old new keeps (inr at) =
+    inr (record { from = at.from; picked = at.picked; there = keeps.stays at.from bytes at.there })
+
+-- ---- the images
+
+module _ {P : Type 0} (From : P → List ℕ → Type 0) (folder : List ℕ) (versions : List Parts) (first : Held) where
+  -- the images of these records stand, what stood before does, and nothing else was made
+  record RowsStand (rows : List (PlanRecord × P)) (old : Held) (new : Option Held) : Type 0 where
+    after : Held
+    is : new ≡ Some after
+    stays : KeepsAll old after
+    images : AllStand From folder versions rows first after
+    others : (other : List ℕ) → ¬ IsOfOne folder rows other → after.bytes_at other ≡ old.bytes_at other
+
+  rows_stand : (rows : List (PlanRecord × P)) (old : Held) (new : Option Held) → KeepsAll first old
+      → MakesRows From folder versions rows (Some old) new → RowsStand rows old new
+  rows_stand [] old new keeps made = record {
+    after = old;
+    is = made;
+    stays = record { stays = λ path bytes stood. stood };
+    images = tt;
+    others = λ other apart. refl;
+  }
+  rows_stand (row ∷ rows) old new keeps made =
+      let row_made = made.1 in
+      let one = one_stands (From row.1) folder row_made.file row_made.planned old made.0 row_made.made in
+      let mid = one.after in
+      let step = new_keeps old mid one.path (Some one.bytes) one.made one.free in
+      let rest = rows_stand rows mid new (keeps_then first old mid keeps step)
+      (subst (λ (held : Option Held). MakesRows From folder versions rows held new) one.is made.2) in
+      record {
+        after = rest.after;
+        is = rest.is;
+        stays = keeps_then old mid rest.after step rest.stays;
+        images = (
+          record {
+            file = row_made.file;
+            named = row_made.named;
+            planned = row_made.planned;
+            of = row_made.of;
+            path = one.path;
+            place = one.place;
+            free = free_before first old one.path keeps one.free;
+            bytes = one.bytes;
+            image = rest.stays.stays one.path one.bytes
+                (ap (λ (files : List ℕ → Option (List ℕ)). files one.path) one.made
+                ∙ file_here one.path (Some one.bytes) old.bytes_at);
+            is = kind_later (From row.1) row_made.planned one.bytes mid rest.after rest.stays
+                (kind_later (From row.1) row_made.planned one.bytes old mid step one.kind);
+          },
+          rest.images,
+        );
+        others = λ other apart. rest.others other (λ later. apart (inr later))
+            ∙ ap (λ (files : List ℕ → Option (List ℕ)). files other) one.made
+            ∙ file_there one.path other (Some one.bytes) old.bytes_at
+            (λ same. apart (inl (record {
+              file = row_made.file;
+              named = row_made.named;
+              place = subst (IsPlace folder row_made.file) same one.place;
+            })));
+      }
+
+-- ---- all of it
+
+-- the images stand also where one more file is made
+module _ {P : Type 0} (From : P → List ℕ → Type 0) (folder : List ℕ) (versions : List Parts) (first old new : Held)
+    (keeps : KeepsAll old new) where
+  still_stand : (rows : List (PlanRecord × P)) → AllStand From folder versions rows first old
+      → AllStand From folder versions rows first new
+  still_stand [] stand = tt
+  still_stand (row ∷ rows) stand = (
+    record {
+      file = stand.0.file;
+      named = stand.0.named;
+      planned = stand.0.planned;
+      of = stand.0.of;
+      path = stand.0.path;
+      place = stand.0.place;
+      free = stand.0.free;
+      bytes = stand.0.bytes;
+      image = keeps.stays stand.0.path stand.0.bytes stand.0.image;
+      is = kind_later (From row.1) stand.0.planned stand.0.bytes old new keeps stand.0.is;
+    },
+    still_stand rows stand.1,
+  )
+
+said_by : (Holds : Held → Held → Type 0) (old after : Held) (new : Option Held) → new ≡ Some after → Holds old after
+    → IfSaid Holds (Some old) new
+said_by Holds old after new is holds =
+    subst (λ (held : Option Held). IfSaid Holds (Some old) held) (sym is) holds
+
+pub stands_whole : {P : Type 0} (From : P → List ℕ → Type 0) (folder : List ℕ) (plan : Layout) (picks : List P)
+    (old new : Option Held) → MakesFileSet From folder plan picks old new
+    → IfSaid (StandsWhole From folder plan picks) old new
+stands_whole From folder plan picks None new made = tt
+stands_whole From folder plan picks (Some old) new made =
+    let rows = picked_rows plan picks in
+    let same : KeepsAll old old = record { stays = λ path bytes stood. stood } in
+    let all = rows_stand From folder plan.versions old rows old made.copied same made.images in
+    let text = directory_of plan.label plan.versions plan.withdrawn in
+    let free = subst (λ (held : Option Held). IsFree made.path held) all.is made.free in
+    let end = published made.path text all.after in
+    let keeps = new_keeps all.after end made.path (Some text) refl free in
+    said_by (StandsWhole From folder plan picks) old end new
+    (made.directory ∙ ap (λ (held : Option Held). option_map (published made.path text) held) all.is)
+    (record {
+      stays = keeps_then old all.after end all.stays keeps;
+      images = still_stand From folder plan.versions old all.after end keeps rows all.images;
+      path = made.path;
+      place = made.place;
+      free = free_before old all.after made.path all.stays free;
+      directory = file_here made.path (Some text) all.after.bytes_at;
+      others = λ other apart none. file_there made.path other (Some text) all.after.bytes_at apart
+          ∙ all.others other none;
+    })

@@ -1,0 +1,69 @@
+-- What a check of a file-set has printed, by its answer.
+use Rattle.std.proofs.Common.{◌≡◌, ◌⊎◌, ℕ, Bool, true, false, List, Option, inl, inr, refl, subst}
+use Rattle.dd_dir.specs.declared.fault.DirFault.{DirFault}
+use Rattle.dd_dir.specs.ReadAnswers.{SaysMemory}
+use Rattle.dd_dir.specs.Reading.{IsWalk, Refuses}
+use Rattle.dd_dir.specs.Trees.{Walk}
+use Rattle.dd_elem.specs.declared.device.Read.{Ghosts as ReadOf}
+use Rattle.dd_elem.specs.declared.device.Write.{Ghosts as WriteOf}
+use Rattle.dd_files.specs.Files.{Held}
+use Rattle.dd_report.specs.Checking.{TellsSome, TellsWalk}
+use Rattle.dd_report.specs.Text.{FailsInText, TakesText}
+use Rattle.dd_report.specs.declared.checking.Comparison.{Comparison}
+use Rattle.dicomdir.specs.Inspecting.{ChecksSet, IsBroken, SaysWalk, TellsBroken, broken_line}
+use Rattle.dicomdir.specs.Merges.{HasDirectory}
+
+module _ {R W : Type 0} (readers : ReadOf R) (writer : WriteOf W) (folder bytes : List ℕ) (files : Option Held)
+    (comparison : Comparison) (before after : ℕ) (old new : W) (directory : HasDirectory folder bytes files) where
+  says : (walk : Walk) → IsWalk bytes walk → SaysWalk folder files walk
+  says walk is = record { bytes = bytes; directory = directory; says = is }
+
+  -- nothing was found, or something
+  abbrev Told : Walk → Bool → Type 0
+  Told walk found = (text : List ℕ) × TellsWalk readers files folder comparison walk found before after text
+      × TakesText writer old new text
+
+  pub nothing_found : (walk : Walk) (found : Bool) → IsWalk bytes walk → Told walk found → found ≡ false
+      → ChecksSet readers folder files comparison writer 0 before after old new
+  nothing_found walk found is (text, tells, took) none =
+      let right = subst (λ (found : Bool). TellsWalk readers files folder comparison walk found before after text) none
+      tells in
+      (text, inl (inl (refl, record { walk = walk; says = says walk is; tells = right }), took))
+
+  pub something_found : (walk : Walk) (found : Bool) → IsWalk bytes walk → Told walk found → found ≡ true
+      → ChecksSet readers folder files comparison writer 3 before after old new
+  something_found walk found is (text, tells, took) some =
+      let amiss = subst (λ (found : Bool). TellsWalk readers files folder comparison walk found before after text) some
+      tells in
+      (text, inl (inr (refl, inl (record { walk = walk; says = says walk is; tells = amiss })), took))
+
+  -- the output failed
+  pub check_unsent : (walk : Walk) → IsWalk bytes walk
+      → (text : List ℕ) × TellsSome readers files folder comparison walk before after text
+      × FailsInText writer old new text
+      → ChecksSet readers folder files comparison writer 1 before after old new
+  check_unsent walk is (text, tells, failed) =
+      (text, inr (refl, inl (record { walk = walk; says = says walk is; tells = tells }), failed))
+
+  -- the directory can't be read
+  broken : (fault : DirFault) → SaysMemory fault ⊎ Refuses bytes fault → ¬ SaysMemory fault
+      → IsBroken folder files fault
+  broken fault (inl memory) none = absurd (none memory)
+  broken fault (inr refuses) none = record { bytes = bytes; directory = directory; refuses = refuses }
+
+  tells_broken : (fault : DirFault) → SaysMemory fault ⊎ Refuses bytes fault → ¬ SaysMemory fault → (words : List ℕ)
+      → TellsBroken folder files (broken_line words)
+  tells_broken fault refused none words =
+      record { fault = fault; broken = broken fault refused none; words = words; line = refl }
+
+  pub check_broken : (fault : DirFault) (status : ℕ) → SaysMemory fault ⊎ Refuses bytes fault → ¬ SaysMemory fault
+      → (status ≡ 1) ⊎ (status ≡ 3)
+      → (status ≡ 3 → (words : List ℕ) × TakesText writer old new (broken_line words))
+      → (status ≡ 1 → (words : List ℕ) × FailsInText writer old new (broken_line words))
+      → ChecksSet readers folder files comparison writer status before after old new
+  check_broken fault status refused none (inl one) printed failed =
+      let line = failed one in
+      (broken_line line.0, inr (one, inr (tells_broken fault refused none line.0), line.1))
+  check_broken fault status refused none (inr three) printed failed =
+      let line = printed three in
+      (broken_line line.0, inl (inr (three, inr (tells_broken fault refused none line.0)), line.1))

@@ -1,0 +1,94 @@
+-- Lines that were printed one after the other.
+use Rattle.std.proofs.Common.{◌≡◌, ◌∙◌, ℕ, List, [], ◌∷◌, ◌++◌, ◌+◌, ◌<◌, ap, append-nil, append_assoc, get_or}
+use Rattle.std.proofs.Common.{codes, length, refl, subst, sym, take}
+use Rattle.std.proofs.KnownBytes.{Appends-nil, Appends-trans}
+use Rattle.std.proofs.lemmas.List.{take_more}
+use Rattle.std.specs.Prelude.{OnOk, Result, Ok, Err}
+use Rattle.dd_engine.specs.declared.noted_index.NotedIndex.{NotedIndex}
+use Rattle.dd_elem.specs.declared.device.Write.{Ghosts as WriteOf}
+use Rattle.dd_report.specs.Text.{TakesText, masked}
+use Rattle.dicomdir.specs.Said.{AreLines, IsLeftOut, IsNames, IsSkip, SaysNotes, left_out_line, path_at, said_line}
+
+-- a line after all others
+lines_push : {T : Type 0} (IsLine : T → List ℕ → Type 0) (xs : List T) (x : T) (text line : List ℕ)
+    → AreLines IsLine xs text → IsLine x line → AreLines IsLine (xs ++ x ∷ []) (text ++ line)
+lines_push IsLine [] x text line are is = (line, [], rw are (sym (append-nil line)), is, refl)
+lines_push IsLine (y ∷ xs) x text line (here, later, parts, first, rest) is = (
+  here,
+  later ++ line,
+  ap (λ (bytes : List ℕ). bytes ++ line) parts ∙ append_assoc here later line,
+  first,
+  lines_push IsLine xs x later line rest is,
+)
+
+-- what was printed of the first lines, and of one more
+abbrev pub SaidTo : {T W : Type 0} → WriteOf W → (T → List ℕ → Type 0) → List T → W → W → Type 0
+SaidTo writer IsLine xs old new = (text : List ℕ) × AreLines IsLine xs text × TakesText writer old new text
+
+pub said_none : {T W : Type 0} (writer : WriteOf W) (IsLine : T → List ℕ → Type 0) (old : W)
+    → SaidTo writer IsLine [] old old
+said_none writer IsLine old = ([], refl, (refl, Appends-nil (writer.contents old)))
+
+pub said_more : {T W : Type 0} (writer : WriteOf W) (IsLine : T → List ℕ → Type 0) (xs : List T) (at : ℕ) (x : T)
+    (line : List ℕ) (a b c : W) → at < length xs → SaidTo writer IsLine (take at xs) a b
+    → IsLine (get_or xs at x) line → TakesText writer b c line → SaidTo writer IsLine (take (at + 1) xs) a c
+said_more {T = T} writer IsLine xs at x line a b c within (text, are, took) is next =
+    subst (λ (first : List T). SaidTo writer IsLine first a c) (sym (take_more xs at x within)) (
+      text ++ line,
+      lines_push IsLine (take at xs) (get_or xs at x) text line are is,
+      (
+        next.0 ∙ took.0,
+        Appends-trans (writer.contents a) (writer.contents b) (writer.contents c) text line took.1 next.1,
+      ),
+    )
+
+-- ---- the parts of a path
+
+joined_three : (a b c rest : List ℕ) → a ++ (b ++ (c ++ rest)) ≡ (a ++ (b ++ c)) ++ rest
+joined_three a b c rest = sym (append_assoc a (b ++ c) rest ∙ ap (λ (xs : List ℕ). a ++ xs) (append_assoc b c rest))
+
+pub left_out_parts : (folder joint inside kept_folder kept_joint kept_inside uid : List ℕ)
+    → said_line (codes "NOTE " ∷ folder ∷ joint ∷ inside ∷ codes ": left out for " ∷ kept_folder ∷ kept_joint ∷ kept_inside
+    ∷ codes ": same SOP Instance UID " ∷ uid ∷ codes ", other bytes" ∷ [])
+    ≡ left_out_line (folder ++ (joint ++ inside)) (kept_folder ++ (kept_joint ++ kept_inside)) uid
+left_out_parts folder joint inside kept_folder kept_joint kept_inside uid =
+    ap (λ (text : List ℕ). masked (codes "NOTE " ++ text) ++ 10 ∷ [])
+    (joined_three folder joint inside _
+    ∙ ap (λ (rest : List ℕ). (folder ++ (joint ++ inside)) ++ (codes ": left out for " ++ rest))
+    (joined_three kept_folder kept_joint kept_inside _))
+
+-- ---- answers
+
+pub on_ok_by : {T E : Type 0} {P Q : Type 0} (r : Result T E) → (P → Q) → OnOk r P → OnOk r Q
+on_ok_by (Ok x) by holds = by holds
+on_ok_by (Err e) by holds = tt
+
+-- ---- one text after another
+
+takes_both : {W : Type 0} (writer : WriteOf W) (a b c : W) (one two : List ℕ) → TakesText writer a b one
+    → TakesText writer b c two → TakesText writer a c (one ++ two)
+takes_both writer a b c one two first next = (
+  next.0 ∙ first.0,
+  Appends-trans (writer.contents a) (writer.contents b) (writer.contents c) one two first.1 next.1,
+)
+
+pub notes_said : {W : Type 0} (writer : WriteOf W) (sources : List (List ℕ)) (noted : NotedIndex) (a b c d : W)
+    → SaidTo writer (IsSkip sources) noted.indexed.skipped.items a b
+    → SaidTo writer (IsLeftOut (λ at shown. shown ≡ path_at sources at)) noted.notes.left_out.items b c
+    → SaidTo writer IsNames noted.notes.names.items c d
+    → (text : List ℕ) × SaysNotes sources noted text × TakesText writer a d text
+notes_said writer sources noted a b c d (skips, skipped, one) (left, left_out, two) (names, named, three) =
+    let says : SaysNotes sources noted (skips ++ (left ++ names)) = record {
+      skips = skips;
+      skipped = skipped;
+      left = left;
+      left_out = left_out;
+      names = names;
+      named = named;
+      is = refl;
+    } in (
+      skips ++ (left ++ names),
+      says,
+      takes_both writer a b d skips (left ++ names) one
+          (takes_both writer b c d left names two three),
+    )

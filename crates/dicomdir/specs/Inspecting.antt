@@ -1,0 +1,131 @@
+-- What `list` and `check` print of a file-set: what its directory says, and what is found of its files.
+use Rattle.std.specs.Prelude.{◌≡◌, ◌⊎◌, ℕ, Bool, true, false, List, [], ◌∷◌, ◌++◌, Option, None, Some, codes, slice_index_or}
+use Rattle.std.specs.Prelude.{string_bytes}
+use Rattle.std.specs.List.{concat}
+use Rattle.clap.specs.Takes.{is_given}
+use Rattle.clap.specs.Words.{Row, Text}
+use Rattle.dd_dir.specs.declared.fault.DirFault.{DirFault}
+use Rattle.dd_dir.specs.Reading.{IsWalk, Refuses}
+use Rattle.dd_dir.specs.Trees.{Walk}
+use Rattle.dd_elem.specs.declared.device.Read.{Ghosts as ReadOf}
+use Rattle.dd_elem.specs.declared.device.Write.{Ghosts as WriteOf}
+use Rattle.dd_files.specs.Files.{Held}
+use Rattle.dd_line.specs.Line.{given_paths, keys_name, long_name, strict_name, verb_name}
+use Rattle.dd_line.specs.declared.line.Verb.TheVariants.{List as ListVerb}
+use Rattle.dd_line.specs.declared.request.Request.{Request}
+use Rattle.dd_line.specs.declared.request.Request.TheVariants.{Index as ToIndex, Merge as ToMerge, Withdraw as ToWithdraw}
+use Rattle.dd_line.specs.declared.request.Request.TheVariants.{Check as ToCheck, List as ToList}
+use Rattle.dd_report.specs.Checking.{TellsSome, TellsWalk}
+use Rattle.dd_report.specs.Listing.{listing}
+use Rattle.dd_report.specs.Text.{FailsInText, TakesText, masked}
+use Rattle.dd_report.specs.declared.checking.Comparison.{Comparison}
+use Rattle.dd_report.specs.declared.known.Form.{Form}
+use Rattle.dd_report.specs.declared.known.Form.TheVariants.{Long, Short}
+use Rattle.dicomdir.specs.Merges.{HasDirectory}
+
+-- ---- the directory
+
+-- the directory of the file-set in the folder (PS3.10 section 8.6) says this
+pub record SaysWalk (folder : List ℕ) (files : Option Held) (walk : Walk) : Type 0 where
+  pub bytes : List ℕ
+  pub directory : HasDirectory folder bytes files
+  pub says : IsWalk bytes walk
+
+-- the file-set has a directory there that can't be read as one, for this reason
+pub record IsBroken (folder : List ℕ) (files : Option Held) (fault : DirFault) : Type 0 where
+  pub bytes : List ℕ
+  pub directory : HasDirectory folder bytes files
+  pub refuses : Refuses bytes fault
+
+-- ---- `list`
+
+-- the form of a listing, which is long where that is asked for
+abbrev pub form_by : Bool → Form
+form_by true = Long
+form_by false = Short
+
+-- With 0 the listing of what the directory says was printed. Any other status is 1, and the output failed in the listing.
+pub record ListsSet {W : Type 0} (writer : WriteOf W) (form : Form) (folder : List ℕ) (files : Option Held)
+    (status : ℕ) (old new : W) : Type 0 where
+  pub walk : Walk
+  pub says : SaysWalk folder files walk
+  pub printed : ((status ≡ 0) × TakesText writer old new (listing form walk))
+      ⊎ ((status ≡ 1) × FailsInText writer old new (listing form walk))
+
+-- ---- `check`
+
+-- the line of a directory that can't be read, with the words of the fault
+abbrev pub broken_line : List ℕ → List ℕ
+broken_line words = masked (concat (codes "BROKEN " ∷ words ∷ [])) ++ 10 ∷ []
+
+-- the directory can't be read, and the line says so
+pub record TellsBroken (folder : List ℕ) (files : Option Held) (text : List ℕ) : Type 0 where
+  pub fault : DirFault
+  pub broken : IsBroken folder files fault
+  pub words : List ℕ
+  pub line : text ≡ broken_line words
+
+-- What is said of a file-set whose files are read by these readers and compared so, while their count of refusals goes
+-- from the first number to the second.
+module _ {R : Type 0} (readers : ReadOf R) (folder : List ℕ) (files : Option Held) (comparison : Comparison) where
+  -- of each record that the directory has, what is found of its file, and whether something is found at all
+  pub record TellsSet (found : Bool) (old new : ℕ) (text : List ℕ) : Type 0 where
+    pub walk : Walk
+    pub says : SaysWalk folder files walk
+    pub tells : TellsWalk readers files folder comparison walk found old new text
+
+  -- the same, up to some record
+  pub record BeginsToTell (old new : ℕ) (text : List ℕ) : Type 0 where
+    pub walk : Walk
+    pub says : SaysWalk folder files walk
+    pub tells : TellsSome readers files folder comparison walk old new text
+
+  -- 0 is for a file-set of which nothing is found, 3 for one of which something is found or whose directory can't be read
+  abbrev pub Tells : ℕ → ℕ → ℕ → List ℕ → Type 0
+  Tells status old new text = ((status ≡ 0) × TellsSet false old new text)
+      ⊎ ((status ≡ 3) × (TellsSet true old new text ⊎ TellsBroken folder files text))
+
+  -- a text of which some was printed before the output failed
+  abbrev pub TellsFront : ℕ → ℕ → List ℕ → Type 0
+  TellsFront old new text = BeginsToTell old new text ⊎ TellsBroken folder files text
+
+  -- With 0 and 3 all of that was printed. Any other status is 1, and the output failed in it.
+  abbrev pub ChecksSet : {W : Type 0} → WriteOf W → ℕ → ℕ → ℕ → W → W → Type 0
+  ChecksSet writer status old new from to = (text : List ℕ)
+      × ((Tells status old new text × TakesText writer from to text)
+      ⊎ ((status ≡ 1) × TellsFront old new text × FailsInText writer from to text))
+
+-- ---- the words of a line
+
+-- the command that they name is `list`
+abbrev pub IsList : Option (Text × List Row) → Type 0
+IsList None = ⊥
+IsList (Some (command, given)) = command ≡ verb_name ListVerb
+
+-- the first path that they give
+abbrev pub first_path : Option (Text × List Row) → Text
+first_path None = []
+first_path (Some (command, given)) = slice_index_or (given_paths given) 0 []
+
+-- the form of the listing that they ask for
+abbrev pub form_in : Option (Text × List Row) → Form
+form_in None = Short
+form_in (Some (command, given)) = form_by (is_given long_name given)
+
+-- what they ask to compare
+abbrev pub comparison_by : Bool → Bool → Comparison
+comparison_by keys strict = record { keys = keys; strict = strict }
+
+abbrev pub comparison_in : Option (Text × List Row) → Comparison
+comparison_in None = comparison_by false false
+comparison_in (Some (command, given)) = comparison_by (is_given keys_name given) (is_given strict_name given)
+
+-- what a request to list or to check has printed, where it ended with this status
+abbrev pub PrintsRequested : {R W : Type 0} → ReadOf R → WriteOf W → Request → Option Held → ℕ → ℕ → ℕ → W → W → Type 0
+PrintsRequested readers writer (ToIndex x) files status old new from to = Unit {0}
+PrintsRequested readers writer (ToMerge x) files status old new from to = Unit {0}
+PrintsRequested readers writer (ToWithdraw x) files status old new from to = Unit {0}
+PrintsRequested readers writer (ToCheck x) files status old new from to =
+    ChecksSet readers (string_bytes x.set) files (comparison_by x.keys x.strict) writer status old new from to
+PrintsRequested readers writer (ToList x) files status old new from to =
+    ListsSet writer (form_by x.long) (string_bytes x.set) files status from to

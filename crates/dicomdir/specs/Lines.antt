@@ -1,0 +1,76 @@
+-- What a command that makes a file-set makes, by the words of its line.
+use Rattle.std.specs.Prelude.{◌≡◌, ℕ, List, [], Option, None, Some, false, true}
+use Rattle.clap.specs.Takes.{is_given}
+use Rattle.clap.specs.Words.{Row, Text, first_of}
+use Rattle.dd_engine.specs.declared.choice.Choice.{Choice}
+use Rattle.dd_files.specs.Files.{Held}
+use Rattle.dd_line.specs.Line.{IsLimit, files0_from_name, given_for, id_name, instance_name, keep_going_name, link_name}
+use Rattle.dd_line.specs.Line.{max_bytes_name, out_name, set_name, source_name, uid_name, verb_name}
+use Rattle.dd_line.specs.Requests.{IsOnly}
+use Rattle.dd_line.specs.declared.line.Verb.TheVariants.{Index, Merge, Withdraw}
+use Rattle.dicomdir.specs.Indexes.{MakesIndex}
+use Rattle.dicomdir.specs.ListedNames.{AreSources}
+use Rattle.dicomdir.specs.Merges.{MakesMerge}
+use Rattle.dicomdir.specs.Names.{choice_by}
+
+-- the words name this command
+abbrev pub IsIndex : Option (Text × List Row) → Type 0
+IsIndex None = ⊥
+IsIndex (Some (command, given)) = command ≡ verb_name Index
+
+abbrev pub IsMerge : Option (Text × List Row) → Type 0
+IsMerge None = ⊥
+IsMerge (Some (command, given)) = command ≡ verb_name Merge
+
+abbrev pub IsWithdraw : Option (Text × List Row) → Type 0
+IsWithdraw None = ⊥
+IsWithdraw (Some (command, given)) = command ≡ verb_name Withdraw
+
+-- the words give a new file-set this folder, and its directory at most this number of bytes
+pub record GivesNewSet (given : List Row) (folder : Text) (bytes : ℕ) : Type 0 where
+  pub out : IsOnly out_name given folder
+  pub limit : IsLimit (first_of max_bytes_name given) bytes
+
+-- the label that they ask for
+abbrev pub choice_of : List Row → Choice
+choice_of given = choice_by (first_of id_name given) (first_of uid_name given)
+
+-- `index` made this of the files at its sources: the paths after OUT and, after these, the names of its list
+pub record IndexesRows (given : List Row) (status : ℕ) (old new : Option Held) : Type 0 where
+  pub folder : Text
+  pub bytes : ℕ
+  pub new_set : GivesNewSet given folder bytes
+  pub sources : List Text
+  pub are : AreSources (is_given keep_going_name given) (first_of files0_from_name given)
+      (given_for source_name given) old sources
+  pub made : MakesIndex (choice_of given) bytes sources folder status old new
+
+-- `merge` made this of the file-sets in its folders: the paths after OUT and, after these, the names of its list
+pub record MergesRows (given : List Row) (old new : Option Held) : Type 0 where
+  pub folder : Text
+  pub bytes : ℕ
+  pub new_set : GivesNewSet given folder bytes
+  pub folders : List Text
+  pub are : AreSources false (first_of files0_from_name given) (given_for set_name given) old folders
+  pub made : MakesMerge (choice_of given) bytes [] folders (is_given link_name given ≡ true) folder old new
+
+-- `withdraw` made this of the file-set in its folder, without the instances that it was given
+pub record WithdrawsRows (given : List Row) (old new : Option Held) : Type 0 where
+  pub folder : Text
+  pub bytes : ℕ
+  pub new_set : GivesNewSet given folder bytes
+  pub made : MakesMerge (choice_of given) bytes (given_for instance_name given) (given_for set_name given) ⊥ folder
+      old new
+
+-- the same of the command that the words name, and what they give it
+abbrev pub IndexesLine : Option (Text × List Row) → ℕ → Option Held → Option Held → Type 0
+IndexesLine None status old new = ⊥
+IndexesLine (Some (command, given)) status old new = IndexesRows given status old new
+
+abbrev pub MergesLine : Option (Text × List Row) → Option Held → Option Held → Type 0
+MergesLine None old new = ⊥
+MergesLine (Some (command, given)) old new = MergesRows given old new
+
+abbrev pub WithdrawsLine : Option (Text × List Row) → Option Held → Option Held → Type 0
+WithdrawsLine None old new = ⊥
+WithdrawsLine (Some (command, given)) old new = WithdrawsRows given old new
