@@ -43,7 +43,7 @@ def as_known(row: int, given: Known) -> _File:
 
 
 def in_folder(folder: str, row: int, file_id: bytes, whole: bool) -> _File:
-    """The file of a record, as it is read by its File ID."""
+    """The file of a record, read by its File ID."""
     return (row, *_given(folder, file_id, whole))
 
 

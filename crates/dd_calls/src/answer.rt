@@ -15,7 +15,8 @@ pub const DONE: u32 = 0;
 /// The status of a call whose answer is longer than the room for it.
 pub const ROOM: u32 = 1;
 
-/// The status of a call whose arguments are at fault: bytes that can't be cut at the ends given, or a number of no record.
+/// The status of a call whose arguments are at fault: bytes that can't be cut at the ends given, or a number of no
+/// record.
 pub const ARGUMENTS: u32 = 2;
 
 /// The status of a call of which an allocation was refused: 91 Memory.
