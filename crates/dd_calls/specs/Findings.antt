@@ -99,8 +99,8 @@ module _ (comparison : Comparison) (records : List Standing) (contents : List �
       (found_there comparison file.given (slice_range contents start file.end) (slice_get records file.row))
       else None
 
-  -- The row of each of these files, where each can be judged. What is given of the first begins at this place. What is
-  -- given of the next begins where that of the first ends, and so on.
+  -- The row of each of these files, where each can be judged. What is given of the first begins at this place, and of
+  -- each other one where the file before it ends.
   abbrev pub rows_from : ℕ → List GivenFile → Option (List FindingRow)
   rows_from start [] = Some []
   rows_from start (file ∷ files) = before (row_from start file) (rows_from file.end files)

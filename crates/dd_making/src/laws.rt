@@ -13,8 +13,8 @@ ghost use Rattle.dd_engine.specs.Merging.{Merges};
 ghost use Rattle.dd_making.specs.Indexes.{AreOfSources, PlansAgree};
 
 /// Proves that the directories of the images among sources merge to the plan that an index of these sources has, or
-/// to its refusal. The choice of a label is the same. So nothing is lost where `of_image` is asked for each image file, and
-/// `merge` once for all.
+/// to its refusal. The choice of a label is the same. So nothing is lost where `of_image` is asked for each image file,
+/// and `merge` once for all.
 pub fn merged_images_are_indexed()
     ensures { (choice : Choice) (limits : Limits) (answers : List Answer) (sets : List (List ℕ))
         (indexed : Result Indexed EngineFault) (merged : Result Merged MergeFault)

@@ -18,7 +18,7 @@ contents_at held path = option_map (λ files. unwrap_or (files.bytes_at path) []
 abbrev pub is_one : List ℕ → ℕ → Bool
 is_one numbers at = list_any (nat_eq at) numbers
 
--- the bytes of a source, where these are the paths of all and the numbers of those that have none
+-- the bytes of a source, by the paths of all sources and the numbers of the sources without a path
 abbrev pub contents_by : Option Held → List (List ℕ) → List ℕ → ℕ → Option (List ℕ)
 contents_by held paths bad at =
     if is_one bad at then Some [] else option_and_then (contents_at held) (slice_get paths at)

@@ -75,8 +75,8 @@ pub record HavePaths (sources paths : List (List ℕ)) (bad : List ℕ) : Type 0
 abbrev pub AreOfSources : List Text → List ℕ → Type 0
 AreOfSources paths bad = (sources : List Text) × HavePaths sources paths bad
 
--- What a command finds of its sources: their paths, and the numbers of those that have none. Only where it goes on past
--- sources that fail may there be such.
+-- What a command finds of its sources: their paths, and the numbers of the sources without a path. There may be such
+-- sources only where the command goes on past sources that fail.
 pub record FindsSources (keeps_going : Bool) (list : Option Text) (given : List Text) (files : Option Held)
     (paths : List Text) (bad : List ℕ) : Type 0 where
   pub sources : List Text

@@ -19,7 +19,8 @@ pub(crate) fn tag_in(number: u32) -> Tag {
     }
 }
 
-/// Gives a status, and then the sizes of text, rows and File IDs. Of a fault it gives its causes, offset, tag and source.
+/// Gives a status, and then the sizes of text, rows and File IDs. Of a fault it gives its causes, offset, tag and
+/// source.
 pub(crate) fn words(alloc: Global, status: u32, answer: &Answer) -> Result<String, AllocError> {
     let Answer {
         text,

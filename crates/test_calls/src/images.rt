@@ -8,8 +8,8 @@ use dd_vectors::{ask_all, put_words, require, v1_implicit, v1_with};
 use std::alloc::Global;
 use std::test::Fail;
 
-/// Changes to V1, and after `@` what is put into its bytes at a place. Then the status and the size of its directory, or
-/// the fault of the file.
+/// Changes to V1, and after `@` what is put into its bytes at a place. Then the status and the size of its directory,
+/// or the fault of the file.
 const IMAGES: &str = "\
 @ > 0 914 0 0
 @128 '4 > 31 21 0 0 (0000,0000) 0

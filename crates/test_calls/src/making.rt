@@ -8,8 +8,8 @@ use dd_vectors::{ask_all, first_directory};
 use std::alloc::Global;
 use std::test::Fail;
 
-/// Sets with what is put into their bytes; the File-set ID; and the UID. Then the status and the sizes, and of each image
-/// the set and the File ID, or the fault.
+/// Sets with what is put into their bytes; the File-set ID; and the UID. Then the status and the sizes, and of each
+/// image the set and the File ID, or the fault.
 const MERGES: &str = "\
 one+one;;2.25.0 > 0 876 1 35: 0 'PT000001\\ST000001\\SE000001\\IM000001
 v2+one;DISC1;2.25.0 > 0 882 1 35: 1 'PT000001\\ST000001\\SE000001\\IM000001

@@ -1,4 +1,4 @@
--- A part that is not UTF-8 has no path. Its number is that of the path that stands for it.
+-- A part that is not UTF-8 has no path. It has the same number as the path in its place.
 use Rattle.std.proofs.Common.{refl, rules}
 use Rattle.dicomdir.proofs.HavingPaths.{pushed_bad}
 use Rattle.dicomdir.proofs.listed_names.add_name.Goals as goal
