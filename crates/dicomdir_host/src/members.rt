@@ -90,7 +90,8 @@ fn split_set<'a>(set: &str, path: &'a str) -> (&'a str, &'a str) {
     path.split_at_checked(above).unwrap_or((path, ""))
 }
 
-/// Looks for the spellings of the name, and adds the one found to the place.
+/// Looks for the spellings of the name, and adds the one found to the place. The error is the first that says more than
+/// that nothing is there.
 fn find_name<R: fs::Files>(rt: &R, name: &str, place: &mut PathBuffer) -> io::Result<Metadata>
     ensures no_link { IfOk result (λ found. ¬ IsSymlink (file_type found)) }
 {
@@ -102,7 +103,8 @@ fn find_name<R: fs::Files>(rt: &R, name: &str, place: &mut PathBuffer) -> io::Re
         match look(rt, place.as_str(), Links::Kept) {
             Ok(found) if !found.is_symlink() => return Ok(found),
             Ok(_) => {}
-            Err(error) => refused = error,
+            Err(error) if refused.kind() == ErrorKind::NotFound => refused = error,
+            Err(_) => {}
         }
     }
     Err(refused)
