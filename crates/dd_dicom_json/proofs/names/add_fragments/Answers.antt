@@ -1,0 +1,31 @@
+-- The element up to its first fragment, its fragments, and its end.
+use Rattle.std.proofs.Common.{[], ◌∷◌, false, codes}
+use Rattle.serde_json.specs.Written.{items_text}
+use Rattle.dd_set.specs.Views.{pieces}
+use Rattle.dd_dicom_json.specs.DicomJson.{fragment_data}
+use Rattle.dd_dicom_json.specs.Texts.{opening}
+use Rattle.dd_dicom_json.specs.Values.{items_by}
+use Rattle.dd_dicom_json.proofs.Leaving.{first_fails, middle_fails, third_tells}
+use Rattle.dd_dicom_json.proofs.ListTexts.{list_text}
+use Rattle.dd_dicom_json.proofs.names.add_fragments.Goals as goal
+
+pub returns-in_err-open_list-clause-written : goal.returns-in_err-open_list-clause-written
+returns-in_err-open_list-clause-written g c =
+    first_fails c.from_residual.result _ (opening c.args.vr (codes "fragments")) _ _ _ c.from_residual.ensures.0
+    (list_text c.args.vr (codes "fragments") (items_by fragment_data (pieces c.args.fragments.now)))
+    c.in_err-open_list.ensures.written
+
+pub returns-in_err-add_all_fragments-clause-written : goal.returns-in_err-add_all_fragments-clause-written
+returns-in_err-add_all_fragments-clause-written g c =
+    middle_fails c.from_residual-in_err-add_all_fragments.result _ (opening c.args.vr (codes "fragments"))
+    (items_text false (items_by fragment_data (pieces c.args.fragments.now))) (125 ∷ []) _ _ _
+    c.from_residual-in_err-add_all_fragments.ensures.0
+    (list_text c.args.vr (codes "fragments") (items_by fragment_data (pieces c.args.fragments.now)))
+    c.in_ok-open_list.ensures.written c.in_err-add_all_fragments.ensures.written
+
+pub returns-clause-written : goal.returns-clause-written
+returns-clause-written g c =
+    third_tells c.add_raw.result _ (opening c.args.vr (codes "fragments"))
+    (items_text false (items_by fragment_data (pieces c.args.fragments.now))) (125 ∷ []) _ _ _ _
+    (list_text c.args.vr (codes "fragments") (items_by fragment_data (pieces c.args.fragments.now)))
+    c.in_ok-open_list.ensures.written c.in_ok-add_all_fragments.ensures.written c.add_raw.ensures.written

@@ -1,0 +1,4 @@
+pub mod GoingOn
+pub mod Masking
+mod SentTexts
+mod TextLemmas
