@@ -9,6 +9,7 @@ ghost use Rattle.dd_calls.specs.Sizes.{over, sized};
 use crate::answer::{Answer, DONE, ROOM};
 use crate::buffer::Buffer;
 use dd_dir::{DirFault, read_directory};
+use dd_json::Style;
 use dd_report::{Form, list_records};
 use std::alloc::Global;
 
@@ -37,7 +38,7 @@ fn listing_of(alloc: Global, bytes: &[u8]) -> Result<Vec<u8>, DirFault>
 {
     let forest = read_directory(alloc, bytes)?;
     let mut buffer = Buffer::with_capacity(alloc, 0)?;
-    match list_records(&forest, Form::Short, &mut buffer) {
+    match list_records(&forest, Form::Short, Style::Text, &mut buffer) {
         Ok(()) => Ok(buffer.into_bytes()),
         Err(_) => Err(DirFault::Memory),
     }

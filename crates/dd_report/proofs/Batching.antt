@@ -1,5 +1,6 @@
 -- What is said of files that wait, as a batch takes them, and as they are digested.
-use Rattle.std.proofs.Common.{◌≡◌, ◌∙◌, ℕ, zero, suc, Bool, true, false, List, [], ◌∷◌, ◌++◌, ◌+◌, ◌<◌, ◌≤◌, length, take}
+use Rattle.std.proofs.Common.{◌≡◌, ◌∙◌, ℕ, zero, suc, Bool, true, false, List, [], ◌∷◌, ◌++◌, ◌+◌, ◌<◌, ◌≤◌, length}
+use Rattle.std.proofs.Common.{take}
 use Rattle.std.proofs.Common.{None, Option, Some, Result, Ok, Err, get_or, length-take-le, refl, sym}
 use Rattle.std.proofs.Common.{ap, subst, append_assoc, append-nil, arith}
 use Rattle.std.proofs.lemmas.List.{get_or-take, take-append-le, take_all}
@@ -15,11 +16,16 @@ use Rattle.dd_elem.proofs.Known.{appends_none}
 use Rattle.dd_slots.specs.Slots.{HasTaken, IsSlotOf}
 use Rattle.dd_slots.specs.declared.slot.Slot.{Slot}
 use Rattle.dd_version.specs.Fitting.{is_empty}
-use Rattle.dd_report.specs.Batches.{Adds, AllKept, CanSettle, Closes, Grows, IsReady, KeepsPending, Report, by_recorded, digest_line, files_of}
+use Rattle.dd_report.specs.Batches.{Adds, AllKept, CanSettle, Closes, Grows, IsReady, KeepsPending, Report, by_recorded}
+use Rattle.dd_report.specs.Batches.{digest_line, files_of}
 use Rattle.dd_report.specs.Batches.{pending_files, pending_line, pending_text, report_of}
+use Rattle.serde_json.specs.Written.{compact_text}
+use Rattle.dd_json.specs.declared.value.Style.{Style}
+use Rattle.dd_json.specs.declared.value.Style.TheVariants.{Text, Json}
 use Rattle.dd_report.specs.Checking.{file_line, finding_parts}
-use Rattle.dd_report.specs.Telling.{Fails, GoesOn, Tells, Way, shown, way, way_of}
-use Rattle.dd_report.specs.Text.{FailsAmid}
+use Rattle.dd_report.specs.FindingJson.{finding_json}
+use Rattle.dd_lines.specs.Telling.{Fails, GoesOn, Tells, Way, shown, way, way_of}
+use Rattle.dd_lines.specs.Text.{FailsAmid}
 use Rattle.dd_report.specs.declared.batch.Batch.{Batch}
 use Rattle.dd_report.specs.declared.batch.Named.{Named}
 use Rattle.dd_report.specs.declared.findings.Expected.{Expected}
@@ -27,8 +33,8 @@ use Rattle.dd_report.specs.declared.findings.Finding.{Finding}
 use Rattle.dd_report.specs.declared.batch.PendingFile.{PendingFile}
 use Rattle.dd_report.specs.declared.checking.CheckFault.{CheckFault}
 use Rattle.dd_report.specs.declared.checking.CheckFault.TheVariants.{Memory, Unsent}
-use Rattle.dd_report.specs.declared.line_buffer.LineBuffer.{LineBuffer}
-use Rattle.dd_report.proofs.GoingOn.{fails_front, fails_next, goes_none, goes_then, one_more}
+use Rattle.dd_lines.specs.declared.line_buffer.LineBuffer.{LineBuffer}
+use Rattle.dd_lines.proofs.GoingOn.{fails_front, fails_next, goes_none, goes_then, one_more}
 
 -- ---- whether anything is said
 
@@ -126,7 +132,8 @@ kept_more [] one kept here = (here, tt)
 kept_more (file ∷ files) one kept here = (kept.0, kept_more files one kept.1 here)
 
 -- one more waits
-pub settles_more : (old new : Batch) (one : PendingFile) → IsReady old → one.slot.hasher ≡ None → new.used ≡ old.used + 1
+pub settles_more : (old new : Batch) (one : PendingFile) → IsReady old → one.slot.hasher ≡ None
+    → new.used ≡ old.used + 1
     → pending_files new ≡ pending_files old ++ one ∷ [] → CanSettle new
 settles_more old new one ready kept count files = (
   omega (arith, count, ready.0),
@@ -295,26 +302,35 @@ pub not_empty : (text : List ℕ) → true ≡ not (is_empty (text ++ 10 ∷ [])
 not_empty [] = refl
 not_empty (byte ∷ text) = refl
 
+-- a line of a finding is not empty
+pub some_line : (style : Style) (at : ℕ) (file : List ℕ) (finding : Finding)
+    → true ≡ not (is_empty (file_line style at file (Some finding)))
+some_line Text at file finding = not_empty (shown (concat (finding_parts at file finding)))
+some_line Json at file finding = not_empty (compact_text (finding_json at file finding))
+
 -- the line of one file
 module _ (named : Named) (expected : Expected) (digest : List ℕ) (judged : Option Finding)
     (is : judged ≡ by_recorded expected digest) where
   pub none_goes_on : (w : Way) → judged ≡ None → GoesOn (digest_line named expected digest) w w
   none_goes_on w none =
-      subst (λ (found : Option Finding). GoesOn (file_line named.at named.file.now found) w w) (sym none ∙ is)
+      subst (λ (found : Option Finding). GoesOn (file_line named.style named.at named.file.now found) w w)
+      (sym none ∙ is)
       (goes_none w)
 
   pub none_says : judged ≡ None → false ≡ not (is_empty (digest_line named expected digest))
   none_says none =
-      ap (λ (found : Option Finding). not (is_empty (file_line named.at named.file.now found))) (sym none ∙ is)
+      ap (λ (found : Option Finding). not (is_empty (file_line named.style named.at named.file.now found)))
+      (sym none ∙ is)
 
   pub finding_goes : (finding : Finding) → judged ≡ Some finding
-      → file_line named.at named.file.now (Some finding) ≡ digest_line named expected digest
+      → file_line named.style named.at named.file.now (Some finding) ≡ digest_line named expected digest
   finding_goes finding some =
-      ap (λ (found : Option Finding). file_line named.at named.file.now found) (sym some ∙ is)
+      ap (λ (found : Option Finding). file_line named.style named.at named.file.now found) (sym some ∙ is)
 
-  pub finding_says : (finding : Finding) → judged ≡ Some finding → true ≡ not (is_empty (digest_line named expected digest))
+  pub finding_says : (finding : Finding) → judged ≡ Some finding
+      → true ≡ not (is_empty (digest_line named expected digest))
   finding_says finding some =
-      not_empty (shown (concat (finding_parts named.at named.file.now finding)))
+      some_line named.style named.at named.file.now finding
       ∙ ap (λ (text : List ℕ). not (is_empty text)) (finding_goes finding some)
 
 -- whether its record has another digest, or this is found otherwise
@@ -345,7 +361,8 @@ other_settles batch next ready =
     let still = ready_same batch (record batch { next = next }) ready (keeps_next batch next) in
     (omega (arith, still.0), still.1)
 
-pub other_adds : {W T E : Type 0} (writer : WriteOf W) (r : Result T E) (before after : LineBuffer W) (batch new : Batch)
+pub other_adds : {W T E : Type 0} (writer : WriteOf W) (r : Result T E) (before after : LineBuffer W)
+    (batch new : Batch)
     (next : PendingFile) (text : List ℕ) → IsReady batch
     → Adds r text (report_of writer before (record batch { next = next })) (report_of writer after new)
     → Adds r text (report_of writer before batch) (report_of writer after new)

@@ -1,5 +1,6 @@
 -- What is judged of a file before its digest is computed is what is found of its bytes.
-use Rattle.std.proofs.Common.{◌≡◌, ◌∙◌, ℕ, Bool, true, false, List, ◌∷◌, Option, None, Some, Result, Ok, Err, inl, inr, refl, sym, ap, subst}
+use Rattle.std.proofs.Common.{◌≡◌, ◌∙◌, ℕ, Bool, true, false, List, ◌∷◌, Option, None, Some, Result, Ok, Err, inl, inr}
+use Rattle.std.proofs.Common.{refl, sym, ap, subst}
 use Rattle.std.specs.Prelude.{◌&&◌, not, is_some, IfOk, IsNone, if◌then◌else◌}
 use Rattle.std.specs.Option.{option_or}
 use Rattle.sha2.specs.Sha256.{sha256}
@@ -13,7 +14,7 @@ use Rattle.dd_slots.specs.declared.slot.Slot.{Slot}
 use Rattle.dd_stream.specs.Reads.{ReadsUpTo}
 use Rattle.dd_report.specs.Agreements.{IsInherited, Standing, by_keys, found_in, is_image, standing_below}
 use Rattle.dd_report.specs.Batches.{judged}
-use Rattle.dd_report.specs.Finding.{FindsBy, IsFound, by_digest, compared, without_digest}
+use Rattle.dd_report.specs.Finding.{FindsBy, by_digest, compared, without_digest}
 use Rattle.dd_report.specs.declared.agreements.Inherited.{Inherited}
 use Rattle.dd_report.specs.declared.checking.Comparison.{Comparison}
 use Rattle.dd_report.specs.declared.findings.Finding.{Finding}
@@ -79,7 +80,8 @@ pub digest_waits : (strict : Bool) (node : Node) (slot : Slot) (otherwise : Opti
     → digest_in node.set ≡ Some recorded → slot.hasher ≡ None → IsSlotOf slot given
     → option_or (compared (Some recorded) (sha256 slot.kept.items)) otherwise ≡ by_digest_or strict node otherwise given
 digest_waits strict node slot otherwise given recorded is kept taken =
-    ap (λ (bytes : List ℕ). option_or (compared (Some recorded) (sha256 bytes)) otherwise) (own_bytes slot given kept taken)
+    ap (λ (bytes : List ℕ). option_or (compared (Some recorded) (sha256 bytes)) otherwise)
+    (own_bytes slot given kept taken)
     ∙ digested strict node otherwise given recorded is
 
 -- its digest is known
@@ -139,14 +141,16 @@ module _ {R : Type 0} (readers : ReadOf R) (limit : ℕ) (old new : R) (comparis
       → FindsBy readers limit (λ (given : List ℕ). by_digest_of comparison.strict standing.node given) finding old new
       → FindsBy readers limit (found_in comparison standing) finding old new
   by_digest_found is by =
-      subst (λ (keys : Bool). FindsBy readers limit (λ (given : List ℕ). by_this keys given) finding old new) (sym is) by
+      subst (λ (keys : Bool). FindsBy readers limit (λ (given : List ℕ). by_this keys given) finding old new) (sym is)
+      by
 
   pub by_keys_found : (comparison.keys && is_image standing.node) ≡ true
       → FindsBy readers limit (λ (given : List ℕ). option_or (by_keys standing given)
       (without_digest comparison.strict standing.node)) finding old new
       → FindsBy readers limit (found_in comparison standing) finding old new
   by_keys_found is by =
-      subst (λ (keys : Bool). FindsBy readers limit (λ (given : List ℕ). by_this keys given) finding old new) (sym is) by
+      subst (λ (keys : Bool). FindsBy readers limit (λ (given : List ℕ). by_this keys given) finding old new) (sym is)
+      by
 
 -- the same of each judgement by keys
 pub keys_found : {R E : Type 0} (readers : ReadOf R) (limit : ℕ) (old new : R) (comparison : Comparison) (node : Node)

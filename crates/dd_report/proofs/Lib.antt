@@ -1,15 +1,13 @@
 mod Agreeing
 mod Batching
 pub mod FirstPlaces
+mod FaultLines
 mod FoundValues
-mod GoingOn
 mod HexDigits
 mod Judging
 mod KeyFindings
 mod ListedLines
-pub mod Masking
+mod MemberLines
 mod RecordLines
-mod SentTexts
-mod TextLemmas
 mod ToldTrees
 mod WithdrawnLines

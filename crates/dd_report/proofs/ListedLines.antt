@@ -1,6 +1,6 @@
 -- The lines of trees, and how many records they have.
-use Rattle.std.proofs.Common.{◌≡◌, ◌∙◌, ℕ, List, [], ◌∷◌, ◌++◌, ◌+◌, ◌<◌, Result, Some, length, take, get_or}
-use Rattle.std.proofs.Common.{refl, sym, ap, ap₂, subst, arith, rules, length-append}
+use Rattle.std.proofs.Common.{◌≡◌, ◌∙◌, ℕ, List, [], ◌∷◌, ◌++◌, ◌+◌, ◌<◌, Result, length, take, get_or}
+use Rattle.std.proofs.Common.{refl, sym, ap, subst, arith, rules, length-append}
 use Rattle.std.specs.Prelude.{IsErr}
 use Rattle.std.specs.List.{flat_map}
 use Rattle.dd_elem.specs.Device.{counted}
@@ -11,97 +11,99 @@ use Rattle.dd_dir.specs.Trees.{Walk, offsets}
 use Rattle.dd_dir.specs.Withdrawn.{withdrawn_of}
 use Rattle.dd_report.specs.declared.known.Form.{Form}
 use Rattle.dd_report.specs.declared.known.Form.TheVariants.{Long}
-use Rattle.dd_report.specs.Listing.{branch_lines, lines_in, lines_of, long_listing, or_dash, record_line, set_line}
-use Rattle.dd_report.specs.Listing.{set_parts, totals_line, withdrawn_lines}
-use Rattle.dd_report.specs.Telling.{Fails, GoesOn, Tells, Way, shown_line}
-use Rattle.dd_report.proofs.GoingOn.{fails_next, fails_front, one_more, tells_err, tells_then}
+use Rattle.dd_report.specs.Listing.{branch_lines, lines_in, lines_of, long_listing, record_line, set_line}
+use Rattle.dd_report.specs.Listing.{totals_line, withdrawn_lines}
+use Rattle.dd_json.specs.declared.value.Style.{Style}
+use Rattle.dd_lines.specs.Telling.{Fails, GoesOn, Tells, Way}
+use Rattle.dd_lines.proofs.GoingOn.{fails_next, fails_front, one_more, tells_err, tells_then}
 
 -- ---- lines
 
-abbrev pub tree_lines : Form → ℕ → Tree → List ℕ
-tree_lines form level t = branch_lines form level (tree_view t)
+abbrev pub tree_lines : Style → Form → ℕ → Tree → List ℕ
+tree_lines style form level t = branch_lines style form level (tree_view t)
 
-pub lines_each : (form : Form) (level : ℕ) (trees : List Tree)
-    → lines_of form level (trees_view trees) ≡ flat_map (tree_lines form level) trees
-lines_each form level [] = refl
-lines_each form level (t ∷ trees) =
-    ap (λ (xs : List ℕ). tree_lines form level t ++ xs) (lines_each form level trees)
+pub lines_each : (style : Style) (form : Form) (level : ℕ) (trees : List Tree)
+    → lines_of style form level (trees_view trees) ≡ flat_map (tree_lines style form level) trees
+lines_each style form level [] = refl
+lines_each style form level (t ∷ trees) =
+    ap (λ (xs : List ℕ). tree_lines style form level t ++ xs) (lines_each style form level trees)
 
 below_is : (t : Tree) → (tree_view t).below ≡ trees_view (out-Tree t).below.items
 below_is t = search (rules, the_lemmas)
 
 -- the line of a record, and then the lines of the records below it
-pub branch_goes : {T E : Type 0} (r : Result T E) (form : Form) (level deeper : ℕ) (t : Tree) (trees : List Tree)
+pub branch_goes : {T E : Type 0} (r : Result T E) (style : Style) (form : Form) (level deeper : ℕ) (t : Tree)
+    (trees : List Tree)
     (a b c : Way) → deeper ≡ counted level → trees ≡ (out-Tree t).below.items
-    → GoesOn (record_line form level (tree_view t).node) a b
-    → Tells r (lines_of form deeper (trees_view trees)) b c → Tells r (branch_lines form level (tree_view t)) a c
-branch_goes r form level deeper t trees a b c deep is first rest =
-    let same : lines_of form deeper (trees_view trees) ≡ lines_of form (counted level) (tree_view t).below =
-    ap (λ (k : ℕ). lines_of form k (trees_view trees)) deep
-    ∙ ap (λ (ts : List Tree). lines_of form (counted level) (trees_view ts)) is
-    ∙ ap (lines_of form (counted level)) (sym (below_is t)) in
-    tells_then r (record_line form level (tree_view t).node) (lines_of form (counted level) (tree_view t).below) a b c
+    → GoesOn (record_line style form level (tree_view t).node) a b
+    → Tells r (lines_of style form deeper (trees_view trees)) b c
+    → Tells r (branch_lines style form level (tree_view t)) a c
+branch_goes r style form level deeper t trees a b c deep is first rest =
+    let same : lines_of style form deeper (trees_view trees) ≡ lines_of style form (counted level) (tree_view t).below =
+    ap (λ (k : ℕ). lines_of style form k (trees_view trees)) deep
+    ∙ ap (λ (ts : List Tree). lines_of style form (counted level) (trees_view ts)) is
+    ∙ ap (lines_of style form (counted level)) (sym (below_is t)) in
+    tells_then r (record_line style form level (tree_view t).node)
+    (lines_of style form (counted level) (tree_view t).below) a b c
     first (subst (λ (text : List ℕ). Tells r text b c) same rest)
 
-pub branch_fails : {T E : Type 0} (r : Result T E) (form : Form) (level : ℕ) (t : Tree) (a b : Way) → IsErr r
-    → Fails (record_line form level (tree_view t).node) a b → Tells r (branch_lines form level (tree_view t)) a b
-branch_fails r form level t a b err failed =
-    let first = record_line form level (tree_view t).node in
-    let below = lines_of form (counted level) (tree_view t).below in
+pub branch_fails : {T E : Type 0} (r : Result T E) (style : Style) (form : Form) (level : ℕ) (t : Tree) (a b : Way)
+    → IsErr r
+    → Fails (record_line style form level (tree_view t).node) a b
+    → Tells r (branch_lines style form level (tree_view t)) a b
+branch_fails r style form level t a b err failed =
+    let first = record_line style form level (tree_view t).node in
+    let below = lines_of style form (counted level) (tree_view t).below in
     tells_err r (first ++ below) a b err (fails_front first below a b failed)
 
 -- ---- a directory
 
 -- the lines of the records, the lines of what is withdrawn, and the last line
-pub all_listed : {T E : Type 0} (r : Result T E) (form : Form) (forest : Forest) (trees : List Tree) (a b c d : Way)
-    → trees ≡ forest.trees.items → GoesOn (lines_of form 0 (trees_view trees)) a b
-    → GoesOn (withdrawn_lines (withdrawn_of (walk_view forest))) b c → Tells r (totals_line (walk_view forest)) c d
-    → Tells r (lines_in form (walk_view forest)) a d
-all_listed r form forest trees a b c d is records withdrawn totals =
-    let lines = withdrawn_lines (withdrawn_of (walk_view forest)) in
-    let last = totals_line (walk_view forest) in
-    tells_then r (lines_of form 0 (trees_view forest.trees.items)) (lines ++ last) a b d
-    (subst (λ (ts : List Tree). GoesOn (lines_of form 0 (trees_view ts)) a b) is records)
+pub all_listed : {T E : Type 0} (r : Result T E) (style : Style) (form : Form) (forest : Forest) (trees : List Tree)
+    (a b c d : Way)
+    → trees ≡ forest.trees.items → GoesOn (lines_of style form 0 (trees_view trees)) a b
+    → GoesOn (withdrawn_lines style (withdrawn_of (walk_view forest))) b c
+    → Tells r (totals_line style (walk_view forest)) c d
+    → Tells r (lines_in style form (walk_view forest)) a d
+all_listed r style form forest trees a b c d is records withdrawn totals =
+    let lines = withdrawn_lines style (withdrawn_of (walk_view forest)) in
+    let last = totals_line style (walk_view forest) in
+    tells_then r (lines_of style form 0 (trees_view forest.trees.items)) (lines ++ last) a b d
+    (subst (λ (ts : List Tree). GoesOn (lines_of style form 0 (trees_view ts)) a b) is records)
     (tells_then r lines last b c d withdrawn totals)
 
 -- the writer failed in the lines of what is withdrawn
-pub withdrawn_fails : {T E : Type 0} (r : Result T E) (form : Form) (forest : Forest) (trees : List Tree) (a b c : Way)
-    → IsErr r → trees ≡ forest.trees.items → GoesOn (lines_of form 0 (trees_view trees)) a b
-    → Fails (withdrawn_lines (withdrawn_of (walk_view forest))) b c → Tells r (lines_in form (walk_view forest)) a c
-withdrawn_fails r form forest trees a b c err is records failed =
-    let lines = withdrawn_lines (withdrawn_of (walk_view forest)) in
-    let last = totals_line (walk_view forest) in
-    tells_err r (lines_in form (walk_view forest)) a c err
-    (fails_next (lines_of form 0 (trees_view forest.trees.items)) (lines ++ last) a b c
-    (subst (λ (ts : List Tree). GoesOn (lines_of form 0 (trees_view ts)) a b) is records)
+pub withdrawn_fails : {T E : Type 0} (r : Result T E) (style : Style) (form : Form) (forest : Forest)
+    (trees : List Tree) (a b c : Way)
+    → IsErr r → trees ≡ forest.trees.items → GoesOn (lines_of style form 0 (trees_view trees)) a b
+    → Fails (withdrawn_lines style (withdrawn_of (walk_view forest))) b c
+    → Tells r (lines_in style form (walk_view forest)) a c
+withdrawn_fails r style form forest trees a b c err is records failed =
+    let lines = withdrawn_lines style (withdrawn_of (walk_view forest)) in
+    let last = totals_line style (walk_view forest) in
+    tells_err r (lines_in style form (walk_view forest)) a c err
+    (fails_next (lines_of style form 0 (trees_view forest.trees.items)) (lines ++ last) a b c
+    (subst (λ (ts : List Tree). GoesOn (lines_of style form 0 (trees_view ts)) a b) is records)
     (fails_front lines last b c failed))
 
 -- the writer failed in the lines of the records
-pub records_fail : {T E : Type 0} (r : Result T E) (form : Form) (forest : Forest) (trees : List Tree) (a b : Way)
-    → IsErr r → trees ≡ forest.trees.items → Fails (lines_of form 0 (trees_view trees)) a b
-    → Tells r (lines_in form (walk_view forest)) a b
-records_fail r form forest trees a b err is failed =
-    let rest = withdrawn_lines (withdrawn_of (walk_view forest)) ++ totals_line (walk_view forest) in
-    tells_err r (lines_in form (walk_view forest)) a b err
-    (fails_front (lines_of form 0 (trees_view forest.trees.items)) rest a b
-    (subst (λ (ts : List Tree). Fails (lines_of form 0 (trees_view ts)) a b) is failed))
+pub records_fail : {T E : Type 0} (r : Result T E) (style : Style) (form : Form) (forest : Forest) (trees : List Tree)
+    (a b : Way)
+    → IsErr r → trees ≡ forest.trees.items → Fails (lines_of style form 0 (trees_view trees)) a b
+    → Tells r (lines_in style form (walk_view forest)) a b
+records_fail r style form forest trees a b err is failed =
+    let rest = withdrawn_lines style (withdrawn_of (walk_view forest)) ++ totals_line style (walk_view forest) in
+    tells_err r (lines_in style form (walk_view forest)) a b err
+    (fails_front (lines_of style form 0 (trees_view forest.trees.items)) rest a b
+    (subst (λ (ts : List Tree). Fails (lines_of style form 0 (trees_view ts)) a b) is failed))
 
 -- ---- what names the file-set
 
-pub names_fail : {T E : Type 0} (r : Result T E) (walk : Walk) (id uid : List ℕ) (a b : Way) → IsErr r
-    → id ≡ or_dash (Some walk.beside.id) → uid ≡ walk.beside.uid → Fails (shown_line (set_parts id uid)) a b
-    → Tells r (long_listing walk) a b
-names_fail r walk id uid a b err id_is uid_is failed =
-    tells_err r (long_listing walk) a b err
-    (fails_front (set_line walk) (lines_in Long walk) a b
-    (subst (λ (parts : List (List ℕ)). Fails (shown_line parts) a b) (ap₂ set_parts id_is uid_is) failed))
-
-pub names_lead : {T E : Type 0} (r : Result T E) (walk : Walk) (id uid : List ℕ) (a b c : Way)
-    → id ≡ or_dash (Some walk.beside.id) → uid ≡ walk.beside.uid → GoesOn (shown_line (set_parts id uid)) a b
-    → Tells r (lines_in Long walk) b c → Tells r (long_listing walk) a c
-names_lead r walk id uid a b c id_is uid_is names lines =
-    tells_then r (set_line walk) (lines_in Long walk) a b c
-    (subst (λ (parts : List (List ℕ)). GoesOn (shown_line parts) a b) (ap₂ set_parts id_is uid_is) names) lines
+pub names_fail : {T E : Type 0} (r : Result T E) (style : Style) (walk : Walk) (a b : Way) → IsErr r
+    → Fails (set_line style walk) a b → Tells r (long_listing style walk) a b
+names_fail r style walk a b err failed =
+    tells_err r (long_listing style walk) a b err
+    (fails_front (set_line style walk) (lines_in style Long walk) a b failed)
 
 -- ---- counts
 

@@ -14,8 +14,8 @@ use Rattle.dd_dir.specs.ForestViews.{tree_view}
 use Rattle.dd_dir.specs.Trees.{Node}
 use Rattle.dd_report.specs.declared.known.Form.{Form}
 use Rattle.dd_report.specs.Listing.{flag_of, label_of, or_dash, record_parts, spaced, tags_in, value_parts}
-use Rattle.dd_report.specs.Telling.{Fails, GoesOn, Tells, Way, shown, shown_byte, shown_line}
-use Rattle.dd_report.proofs.GoingOn.{fails_next, fails_front, goes_then, line_ends, line_fails}
+use Rattle.dd_lines.specs.Telling.{Fails, GoesOn, Tells, Way, shown, shown_byte, shown_line}
+use Rattle.dd_lines.proofs.GoingOn.{fails_next, fails_front, goes_then, line_ends, line_fails}
 
 -- ---- two rows of parts
 
@@ -46,13 +46,16 @@ both_end r one two a b c d first second end =
 
 -- ---- a record
 
-at_same : (t : Tree) → (tree_view t).node.at ≡ (out-Tree t).at
+pub at_same : (t : Tree) → (tree_view t).node.at ≡ (out-Tree t).at
 at_same t = search (rules, the_lemmas)
 
-kind_same : (t : Tree) → (tree_view t).node.kind ≡ (out-Tree t).kind.now
+pub kind_same : (t : Tree) → (tree_view t).node.kind ≡ (out-Tree t).kind.now
 kind_same t = search (rules, the_lemmas)
 
-set_same : (t : Tree) → (tree_view t).node.set ≡ set_view (out-Tree t).set
+pub in_use_same : (t : Tree) → (tree_view t).node.in_use ≡ (out-Tree t).in_use
+in_use_same t = search (rules, the_lemmas)
+
+pub set_same : (t : Tree) → (tree_view t).node.set ≡ set_view (out-Tree t).set
 set_same t = search (rules, the_lemmas)
 
 abbrev pub words_of : Node → List (List ℕ)

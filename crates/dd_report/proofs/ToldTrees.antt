@@ -6,7 +6,7 @@ use Rattle.std.proofs.Common.{subst, append_assoc, append-nil, arith, rules}
 use Rattle.std.proofs.Common.{inl, inr}
 use Rattle.std.specs.Prelude.{◌≢◌, ◌&&◌, ◌||◌, ◌==◌, not, nat_lt, All, IfOk, IfSome, IsSome}
 use Rattle.std.specs.Io.KnownBytes.{Consumes}
-use Rattle.std.specs.List.{concat, flat_map}
+use Rattle.std.specs.List.{flat_map}
 use Rattle.std.proofs.lemmas.List.{take_all}
 use Rattle.dd_elem.specs.declared.device.Read.{Ghosts as ReadOf}
 use Rattle.dd_elem.specs.Device.{Gives, HasWorked}
@@ -20,8 +20,9 @@ use Rattle.dd_files.specs.Files.{Held}
 use Rattle.dd_files.specs.Paths.{IsPathIn, id_path}
 use Rattle.dd_files.proofs.FilePaths.{id_ascii}
 use Rattle.dd_report.specs.Checking.{Checks, ChecksAll, FindsFile, FindsRead, TellsAll, TellsFirst}
-use Rattle.dd_report.specs.Checking.{TellsSome, TellsWalk, end_line, file_line, finding_line, finding_parts, is_right}
+use Rattle.dd_report.specs.Checking.{TellsSome, TellsWalk, end_line, file_line, finding_line, is_right}
 use Rattle.dd_report.specs.Checking.{most_read}
+use Rattle.dd_json.specs.declared.value.Style.{Style}
 use Rattle.dd_report.specs.declared.checking.Comparison.{Comparison}
 use Rattle.dd_report.specs.declared.checking.CheckFault.{CheckFault}
 use Rattle.dd_report.specs.declared.checking.CheckFault.TheVariants.{Memory, Unsent}
@@ -30,12 +31,12 @@ use Rattle.dd_report.specs.declared.agreements.Inherited.{Inherited}
 use Rattle.dd_report.specs.Agreements.{IsInherited, Standing, branch_standings, found_in, standing_below}
 use Rattle.dd_report.specs.Agreements.{standings_below}
 use Rattle.dd_report.specs.Finding.{FindsBy, IsFound, NamesFile, file_in}
-use Rattle.dd_report.specs.Telling.{Fails, GoesOn, Way, shown}
-use Rattle.dd_report.specs.Text.{FailsAmid, TakesAll}
+use Rattle.dd_lines.specs.Telling.{Fails, GoesOn, Way}
+use Rattle.dd_lines.specs.Text.{FailsAmid, TakesAll}
 use Rattle.dd_report.specs.Batches.{Closes, Grows, Report, Reports}
-use Rattle.dd_report.proofs.Batching.{grows_none, grows_then, not_empty}
-use Rattle.dd_report.proofs.GoingOn.{all_goes, fails_next, fails_of_none, goes_then, none_goes}
-use Rattle.dd_report.proofs.GoingOn.{one_more, parted}
+use Rattle.dd_report.proofs.Batching.{grows_none, grows_then}
+use Rattle.dd_lines.proofs.GoingOn.{all_goes, fails_next, fails_of_none, goes_then, none_goes}
+use Rattle.dd_lines.proofs.GoingOn.{one_more, parted}
 
 -- ---- nothing is printed only where nothing is found
 
@@ -53,19 +54,16 @@ pub some_unreached : (n : ℕ) → nat_lt 0 n ≡ not (n == 0)
 some_unreached zero = refl
 some_unreached (suc n) = search (arith)
 
--- a line of a finding is not empty
-pub some_line : (node : Node) (finding : Finding) → true ≡ not (is_empty (finding_line node (Some finding)))
-some_line node finding = not_empty (shown (concat (finding_parts node.at (file_in node) finding)))
-
 at_same : (t : Tree) → (out-Tree t).at ≡ (tree_view t).node.at
 at_same t = search (rules, the_lemmas)
 
 -- the line of a finding, by what the record of a tree says
-pub tree_line : (t : Tree) (file : List ℕ) (finding : Option Finding) → file ≡ file_in (tree_view t).node
-    → file_line (out-Tree t).at file finding ≡ finding_line (tree_view t).node finding
-tree_line t file finding is =
-    ap (λ (at : ℕ). file_line at file finding) (at_same t)
-    ∙ ap (λ (name : List ℕ). file_line (tree_view t).node.at name finding) is
+pub tree_line : (style : Style) (t : Tree) (file : List ℕ) (finding : Option Finding)
+    → file ≡ file_in (tree_view t).node
+    → file_line style (out-Tree t).at file finding ≡ finding_line style (tree_view t).node finding
+tree_line style t file finding is =
+    ap (λ (at : ℕ). file_line style at file finding) (at_same t)
+    ∙ ap (λ (name : List ℕ). file_line style (tree_view t).node.at name finding) is
 
 -- ---- the records of trees
 
@@ -142,7 +140,8 @@ module _ {R : Type 0} (readers : ReadOf R) (held : Option Held) (folder : List �
       }
 
   -- the same of what is found wherever the record stands
-  pub file_found : {A E : Type 0} (r : Result A E) (sense : A → Option Finding) (said : Inherited) (opened path file : List ℕ)
+  pub file_found : {A E : Type 0} (r : Result A E) (sense : A → Option Finding) (said : Inherited)
+      (opened path file : List ℕ)
       (node : Node) (fresh left : R) (old new : ℕ)
       → file ≡ file_in node → NamesFile node → IsFileId (file_in node) → opened ≡ path
       → (All (λ (byte : ℕ). byte < 128) file → IsPathIn folder (id_path file) path)
@@ -154,7 +153,8 @@ module _ {R : Type 0} (readers : ReadOf R) (held : Option Held) (folder : List �
       fresh left)
       → IfOk r (λ judged. (above : List Node) → IsInherited said (node ∷ above)
       → FindsFile readers held folder comparison (standing_below above node) old new (sense judged))
-  file_found (Ok judged) sense said opened path file node fresh left old new is names id at place there first unread none
+  file_found (Ok judged) sense said opened path file node fresh left old new is names id at place there first unread
+      none
       worked finds = λ above inherits. record {
         unnamed = λ unnamed. absurd (unnamed names);
         misnamed = λ _ bad. absurd (bad id);
@@ -166,22 +166,25 @@ module _ {R : Type 0} (readers : ReadOf R) (held : Option Held) (folder : List �
                   there first unread none by.gave by.known by.few by.answered,
             );
       }
-  file_found (Err fault) sense said opened path file node fresh left old new is names id at place there first unread none
+  file_found (Err fault) sense said opened path file node fresh left old new is names id at place there first unread
+      none
       worked finds = tt
 
+module _ {R : Type 0} (readers : ReadOf R) (held : Option Held) (folder : List ℕ) (comparison : Comparison)
+    (style : Style) where
   -- ---- records
 
   abbrev Told : List Standing → ℕ → ℕ → List ℕ → Type 0
-  Told = TellsAll readers held folder comparison
+  Told = TellsAll readers held folder comparison style
 
   abbrev First : List Standing → ℕ → ℕ → List ℕ → Type 0
-  First = TellsFirst readers held folder comparison
+  First = TellsFirst readers held folder comparison style
 
   abbrev Checked : List Standing → Result Bool CheckFault → ℕ → ℕ → Way → Way → Type 0
-  Checked = Checks readers held folder comparison
+  Checked = Checks readers held folder comparison style
 
   abbrev Reported : {T : Type 0} → List Standing → Result T CheckFault → ℕ → ℕ → Report → Report → Type 0
-  Reported all r f g a b = Reports readers held folder comparison all r f g a b
+  Reported all r f g a b = Reports readers held folder comparison style all r f g a b
 
   -- the texts of both lists
   both_told : (xs ys : List Standing) (f g h : ℕ) (one two : List ℕ) → Told xs f g one → Told ys g h two
@@ -230,33 +233,33 @@ module _ {R : Type 0} (readers : ReadOf R) (held : Option Held) (folder : List �
 
   one_told : (standing : Standing) (f g : ℕ) (finding : Option Finding)
       → FindsFile readers held folder comparison standing f g finding
-      → Told (standing ∷ []) f g (finding_line standing.node finding)
+      → Told (standing ∷ []) f g (finding_line style standing.node finding)
   one_told standing f g finding finds = (
-    finding_line standing.node finding,
+    finding_line style standing.node finding,
     [],
     g,
-    sym (append-nil (finding_line standing.node finding)),
+    sym (append-nil (finding_line style standing.node finding)),
     record { finding = finding; finds = finds; line = refl },
     (refl, refl),
   )
 
   pub record_told : {T : Type 0} (done : T) (standing : Standing) (f g : ℕ) (finding : Option Finding)
       (start a b : Report) → a ≡ start → FindsFile readers held folder comparison standing f g finding
-      → Grows (finding_line standing.node finding) a b → Reported (standing ∷ []) (Ok done) f g start b
+      → Grows (finding_line style standing.node finding) a b → Reported (standing ∷ []) (Ok done) f g start b
   record_told done standing f g finding start a b is finds grows = (
-    finding_line standing.node finding,
+    finding_line style standing.node finding,
     one_told standing f g finding finds,
-    subst (λ (w : Report). Grows (finding_line standing.node finding) w b) is grows,
+    subst (λ (w : Report). Grows (finding_line style standing.node finding) w b) is grows,
   )
 
   pub record_unsent : (T : Type 0) (standing : Standing) (f g : ℕ) (finding : Option Finding)
       (start a b : Report) → a ≡ start → FindsFile readers held folder comparison standing f g finding
-      → Fails (finding_line standing.node finding) a.course b.course
+      → Fails (finding_line style standing.node finding) a.course b.course
       → Reported {T = T} (standing ∷ []) (Err Unsent) f g start b
   record_unsent T standing f g finding start a b is finds failed = (
-    finding_line standing.node finding,
+    finding_line style standing.node finding,
     record { first = standing ∷ []; others = []; parts = refl; told = one_told standing f g finding finds },
-    subst (λ (w : Report). Fails (finding_line standing.node finding) w.course b.course) is failed,
+    subst (λ (w : Report). Fails (finding_line style standing.node finding) w.course b.course) is failed,
   )
 
   -- what is said of both lists
@@ -292,12 +295,12 @@ module _ {R : Type 0} (readers : ReadOf R) (held : Option Held) (folder : List �
   -- files that hold the same
   abbrev ReportedOver : {T : Type 0} → Option Held → List Standing → Result T CheckFault → ℕ → ℕ → Report → Report
       → Type 0
-  ReportedOver mid all r f g a b = Reports readers mid folder comparison all r f g a b
+  ReportedOver mid all r f g a b = Reports readers mid folder comparison style all r f g a b
 
   over : {T : Type 0} (mid : Option Held) (all : List Standing) (r : Result T CheckFault) (f g : ℕ) (a b : Report)
       → mid ≡ held → ReportedOver mid all r f g a b → Reported all r f g a b
   over mid all r f g a b same reports =
-      subst (λ (h : Option Held). Reports readers h folder comparison all r f g a b) same reports
+      subst (λ (h : Option Held). Reports readers h folder comparison style all r f g a b) same reports
 
   -- ---- trees
 
@@ -308,7 +311,8 @@ module _ {R : Type 0} (readers : ReadOf R) (held : Option Held) (folder : List �
       → Reported (standings_below above (trees_view (take (i + 1) trees))) (Ok done) f h a c
   more_told above mid trees i t one so_far done f g h a b c within is same first next =
       subst (λ (ns : List Standing). Reported ns (Ok done) f h a c) (sym (one_tree_more above trees i t within is))
-      (then_told (standings_below above (trees_view (take i trees))) (tree_standings above t) so_far one done f g h a b c
+      (then_told (standings_below above (trees_view (take i trees))) (tree_standings above t) so_far one done f g h a
+      b c
       first (over mid (tree_standings above t) (Ok one) g h b c same next))
 
   pub all_told : {T : Type 0} (above : List Node) (trees : List Tree) (i : ℕ) (so_far done : T) (f g : ℕ) (a b : Report)
@@ -403,7 +407,8 @@ module _ {R : Type 0} (readers : ReadOf R) (held : Option Held) (folder : List �
   closed all (Err Unsent) (Err Unsent) f g a b c none reports closes = (
     reports.0,
     reports.1,
-    subst (λ (h : Option (List ℕ)). FailsAmid a.course.holds h a.course.failures c.failures (a.course.waits ++ reports.0))
+    subst (λ (h : Option (List ℕ)). FailsAmid a.course.holds h a.course.failures c.failures
+        (a.course.waits ++ reports.0))
         (sym closes.0)
         (subst (λ (n : ℕ). FailsAmid a.course.holds b.course.holds a.course.failures n (a.course.waits ++ reports.0))
         (sym closes.1) reports.2),
@@ -418,7 +423,7 @@ module _ {R : Type 0} (readers : ReadOf R) (held : Option Held) (folder : List �
   -- ---- a directory
 
   abbrev CheckedAll : Walk → Result Bool CheckFault → ℕ → ℕ → Way → Way → Type 0
-  CheckedAll = ChecksAll readers held folder comparison
+  CheckedAll = ChecksAll readers held folder comparison style
 
   -- a fault in its trees is one of all
   pub walk_ends : (forest : Forest) (trees : List Tree) (r one : Result Bool CheckFault) (fault : CheckFault) (f g : ℕ)
@@ -436,12 +441,12 @@ module _ {R : Type 0} (readers : ReadOf R) (held : Option Held) (folder : List �
       rw ends (same.0, inl same.1, same.2)
 
   abbrev Walked : Forest → Bool → ℕ → ℕ → List ℕ → Type 0
-  Walked forest = TellsWalk readers held folder comparison (walk_view forest)
+  Walked forest = TellsWalk readers held folder comparison style (walk_view forest)
 
   walk_told : (forest : Forest) (trees : List Tree) (found some all : Bool) (f g : ℕ) (text : List ℕ)
       → trees ≡ forest.trees.items → Told (standings_below [] (trees_view trees)) f g text → found ≡ not (is_empty text)
       → some ≡ not (forest.unreached == 0) → all ≡ (found || some)
-      → Walked forest all f g (text ++ end_line text (walk_view forest))
+      → Walked forest all f g (text ++ end_line style text (walk_view forest))
   walk_told forest trees found some all f g text is told one two both = (
     text,
     subst (λ (ts : List Tree). Told (standings_below [] (trees_view ts)) f g text) is told,
@@ -452,11 +457,12 @@ module _ {R : Type 0} (readers : ReadOf R) (held : Option Held) (folder : List �
   -- after the findings the end
   pub all_checked : (forest : Forest) (trees : List Tree) (found some all : Bool) (f g : ℕ) (a b c : Way)
       → trees ≡ forest.trees.items → Checked (standings_below [] (trees_view trees)) (Ok found) f g a b
-      → ((findings : List ℕ) → found ≡ not (is_empty findings) → GoesOn (end_line findings (walk_view forest)) b c)
+      → ((findings : List ℕ) → found ≡ not (is_empty findings)
+      → GoesOn (end_line style findings (walk_view forest)) b c)
       → some ≡ not (forest.unreached == 0) → all ≡ (found || some)
       → CheckedAll (walk_view forest) (Ok all) f g a c
   all_checked forest trees found some all f g a b c is checked ends two both =
-      let end = end_line checked.0 (walk_view forest) in (
+      let end = end_line style checked.0 (walk_view forest) in (
         checked.0 ++ end,
         walk_told forest trees found some all f g checked.0 is checked.1 checked.2 two both,
         goes_then checked.0 end a b c checked.3 (ends checked.0 checked.2),
@@ -465,12 +471,12 @@ module _ {R : Type 0} (readers : ReadOf R) (held : Option Held) (folder : List �
   -- the writer failed there
   pub end_unsent : (forest : Forest) (trees : List Tree) (found : Bool) (f g : ℕ) (a b c : Way)
       → trees ≡ forest.trees.items → Checked (standings_below [] (trees_view trees)) (Ok found) f g a b
-      → ((findings : List ℕ) → found ≡ not (is_empty findings) → Fails (end_line findings (walk_view forest)) b c)
+      → ((findings : List ℕ) → found ≡ not (is_empty findings) → Fails (end_line style findings (walk_view forest)) b c)
       → CheckedAll (walk_view forest) (Err Unsent) f g a c
   end_unsent forest trees found f g a b c is checked failed =
       let some = not (forest.unreached == 0) in
       let all = found || some in
-      let end = end_line checked.0 (walk_view forest) in (
+      let end = end_line style checked.0 (walk_view forest) in (
         checked.0 ++ end,
         inr (all, walk_told forest trees found some all f g checked.0 is checked.1 checked.2 refl refl),
         fails_next checked.0 end a b c checked.3 (failed checked.0 checked.2),
@@ -481,7 +487,7 @@ module _ {R : Type 0} (readers : ReadOf R) (held : Option Held) (folder : List �
   pub walk_went : (walk : Walk) (r : Result Bool CheckFault) (f g : ℕ) (a b : Way) (c : Option (List ℕ)) (h : ℕ)
       → a.waits ≡ [] → CheckedAll walk r f g a b → TakesAll b.holds c b.failures h b.waits
       → IfOk r (λ found. (text : List ℕ)
-      × TellsWalk readers held folder comparison walk found f g text
+      × TellsWalk readers held folder comparison style walk found f g text
       × TakesAll a.holds c a.failures h text)
   walk_went walk (Ok found) f g a b c h none checks took =
       (checks.0, checks.1, all_goes checks.0 a b c h none checks.2 took)
@@ -496,7 +502,7 @@ module _ {R : Type 0} (readers : ReadOf R) (held : Option Held) (folder : List �
       (cut.0, cut.1, all_goes cut.0 a b c h none cut.2 took)
 
   abbrev SomeTold : Walk → ℕ → ℕ → List ℕ → Type 0
-  SomeTold = TellsSome readers held folder comparison
+  SomeTold = TellsSome readers held folder comparison style
 
   pub walk_unsent : (walk : Walk) (r : Result Bool CheckFault) (f g : ℕ) (a b : Way) → a.waits ≡ [] → r ≡ Err Unsent
       → CheckedAll walk r f g a b

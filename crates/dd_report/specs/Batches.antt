@@ -19,11 +19,12 @@ use Rattle.dd_report.specs.declared.checking.Comparison.{Comparison}
 use Rattle.dd_report.specs.declared.findings.Finding.{Finding}
 use Rattle.dd_report.specs.declared.findings.Judgement.{Judgement}
 use Rattle.dd_report.specs.declared.findings.Judgement.TheVariants.{Known, Pending}
-use Rattle.dd_report.specs.declared.line_buffer.LineBuffer.{LineBuffer}
+use Rattle.dd_json.specs.declared.value.Style.{Style}
+use Rattle.dd_lines.specs.declared.line_buffer.LineBuffer.{LineBuffer}
 use Rattle.dd_report.specs.Agreements.{Standing}
 use Rattle.dd_report.specs.Checking.{TellsAll, TellsFirst, file_line}
 use Rattle.dd_report.specs.Finding.{compared}
-use Rattle.dd_report.specs.Telling.{Fails, GoesOn, Way, way}
+use Rattle.dd_lines.specs.Telling.{Fails, GoesOn, Way, way}
 
 -- ---- files of a batch
 
@@ -33,7 +34,7 @@ by_recorded expected digest = option_or (compared (Some expected.recorded) diges
 
 -- its line
 abbrev pub digest_line : Named → Expected → List ℕ → List ℕ
-digest_line named expected digest = file_line named.at named.file.now (by_recorded expected digest)
+digest_line named expected digest = file_line named.style named.at named.file.now (by_recorded expected digest)
 
 abbrev pub pending_line : PendingFile → List ℕ
 pending_line one = digest_line one.named one.expected (sha256 one.slot.kept.items)
@@ -107,14 +108,16 @@ Adds (Err fault) text old new = Fails text old.course new.course
 
 -- What a check says of these records came to the report. Where memory ran out it speaks of the first of them, and where
 -- the writer failed, it failed in what was to go.
-module _ {R : Type 0} (readers : ReadOf R) (held : Option Held) (folder : List ℕ) (comparison : Comparison) where
+module _ {R : Type 0} (readers : ReadOf R) (held : Option Held) (folder : List ℕ) (comparison : Comparison)
+    (style : Style) where
   abbrev pub Reports : {T : Type 0} → List Standing → Result T CheckFault → ℕ → ℕ → Report → Report → Type 0
   Reports all (Ok done) old new from to =
-      (text : List ℕ) × TellsAll readers held folder comparison all old new text × Grows text from to
+      (text : List ℕ) × TellsAll readers held folder comparison style all old new text × Grows text from to
   Reports all (Err Memory) old new from to =
-      (text : List ℕ) × TellsFirst readers held folder comparison all old new text × Grows text from to
+      (text : List ℕ) × TellsFirst readers held folder comparison style all old new text × Grows text from to
   Reports all (Err Unsent) old new from to =
-      (text : List ℕ) × TellsFirst readers held folder comparison all old new text × Fails text from.course to.course
+      (text : List ℕ) × TellsFirst readers held folder comparison style all old new text × Fails text from.course
+      to.course
 
 -- The answer of a check and the way of its lines, once the files that wait are spoken of too; `checked` was the answer
 -- before that.

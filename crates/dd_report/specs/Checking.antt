@@ -1,4 +1,5 @@
--- What a check of a file-set finds of the files that its records name, and the lines that say it.
+-- What a check of a file-set finds of the files that its records name, and the lines that say it, in words or as JSON
+-- objects (RFC 8259).
 use Rattle.std.specs.Prelude.{◌≡◌, ◌⊎◌, ℕ, ◌+◌, ◌≤◌, Bool, not, ◌&&◌, ◌==◌, List, [], ◌∷◌, ◌++◌, Option, None}
 use Rattle.std.specs.Prelude.{Some, IfSome, IsSome, Result, Ok, Err, codes, if◌then◌else◌}
 use Rattle.std.specs.Fmt.{decimal}
@@ -21,7 +22,11 @@ use Rattle.dd_report.specs.Agreements.{Standing, found_in, standings_below}
 use Rattle.dd_report.specs.Finding.{IsFound, NamesFile, file_in}
 use Rattle.dd_report.specs.Listing.{record_count}
 use Rattle.dd_files.specs.Paths.{IsPathIn, id_path}
-use Rattle.dd_report.specs.Telling.{Fails, GoesOn, Way, shown_line}
+use Rattle.dd_report.specs.FindingJson.{finding_json, right_json, unreached_json}
+use Rattle.dd_lines.specs.Telling.{Fails, GoesOn, Way, shown_line}
+use Rattle.dd_json.specs.declared.value.Style.{Style}
+use Rattle.dd_json.specs.declared.value.Style.TheVariants.{Text, Json}
+use Rattle.dd_json.specs.Values.{json_line}
 use Rattle.dd_report.specs.Words.{file_words, mislabelled_parts}
 
 -- ---- lines
@@ -40,24 +45,28 @@ finding_parts at file (Mislabelled tag) = mislabelled_parts file (text_of tag)
 finding_parts at file (NoFile fault) = mislabelled_parts file (codes "31 File " ++ file_words fault)
 finding_parts at file NoDigest = codes "NODIGEST " ∷ file ∷ []
 
-abbrev pub file_line : ℕ → List ℕ → Option Finding → List ℕ
-file_line at file None = []
-file_line at file (Some finding) = shown_line (finding_parts at file finding)
+abbrev pub file_line : Style → ℕ → List ℕ → Option Finding → List ℕ
+file_line style at file None = []
+file_line Text at file (Some finding) = shown_line (finding_parts at file finding)
+file_line Json at file (Some finding) = json_line (finding_json at file finding)
 
-abbrev pub finding_line : Node → Option Finding → List ℕ
-finding_line node finding = file_line node.at (file_in node) finding
+abbrev pub finding_line : Style → Node → Option Finding → List ℕ
+finding_line style node finding = file_line style node.at (file_in node) finding
 
 -- after the findings how many items no offset reaches, where there are some, and else that all is right, where
 -- nothing is found
-abbrev pub right_line : Walk → List ℕ
-right_line walk = shown_line (codes "OK " ∷ decimal (record_count walk.trees) ∷ codes " records" ∷ [])
+abbrev pub right_line : Style → ℕ → List ℕ
+right_line Text records = shown_line (codes "OK " ∷ decimal records ∷ codes " records" ∷ [])
+right_line Json records = json_line (right_json records)
 
-abbrev pub unreached_line : ℕ → List ℕ
-unreached_line unreached = shown_line (codes "UNREACHED " ∷ decimal unreached ∷ [])
+abbrev pub unreached_line : Style → ℕ → List ℕ
+unreached_line Text unreached = shown_line (codes "UNREACHED " ∷ decimal unreached ∷ [])
+unreached_line Json unreached = json_line (unreached_json unreached)
 
-abbrev pub end_line : List ℕ → Walk → List ℕ
-end_line findings walk =
-    if walk.unreached == 0 then (if is_empty findings then right_line walk else []) else unreached_line walk.unreached
+abbrev pub end_line : Style → List ℕ → Walk → List ℕ
+end_line style findings walk =
+    if walk.unreached == 0 then (if is_empty findings then right_line style (record_count walk.trees) else [])
+    else unreached_line style walk.unreached
 
 abbrev pub is_right : List ℕ → Walk → Bool
 is_right findings walk = is_empty findings && (walk.unreached == 0)
@@ -94,11 +103,14 @@ module _ {R : Type 0} (readers : ReadOf R) (held : Option Held) (folder : List �
     pub named : NamesFile standing.node → IsFileId (file_in standing.node)
         → ((finding ≡ Some Missing) × (new ≡ counted old)) ⊎ (HasWorked old new × FindsRead standing finding)
 
+-- What a check says of such files, in this style.
+module _ {R : Type 0} (readers : ReadOf R) (held : Option Held) (folder : List ℕ) (comparison : Comparison)
+    (style : Style) where
   -- what a check says of a record
   pub record TellsRecord (standing : Standing) (old new : ℕ) (text : List ℕ) : Type 0 where
     pub finding : Option Finding
-    pub finds : FindsFile standing old new finding
-    pub line : text ≡ finding_line standing.node finding
+    pub finds : FindsFile readers held folder comparison standing old new finding
+    pub line : text ≡ finding_line style standing.node finding
 
   -- what it says of records, one after the other
   abbrev pub TellsAll : List Standing → ℕ → ℕ → List ℕ → Type 0
@@ -116,7 +128,7 @@ module _ {R : Type 0} (readers : ReadOf R) (held : Option Held) (folder : List �
   -- what it says of all of a directory, and whether something is found
   abbrev pub TellsWalk : Walk → Bool → ℕ → ℕ → List ℕ → Type 0
   TellsWalk walk found old new text = (findings : List ℕ) × TellsAll (standings_below [] walk.trees) old new findings
-      × (found ≡ not (is_right findings walk)) × (text ≡ findings ++ end_line findings walk)
+      × (found ≡ not (is_right findings walk)) × (text ≡ findings ++ end_line style findings walk)
 
   -- what it says of a directory up to some place: of its first records, or of all of it
   abbrev pub TellsSome : Walk → ℕ → ℕ → List ℕ → Type 0

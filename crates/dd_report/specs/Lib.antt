@@ -2,7 +2,7 @@ pub mod Agreements
 pub mod Batches
 pub mod Checking
 pub mod Finding
+pub mod FindingJson
 pub mod Listing
-pub mod Telling
-pub mod Text
+pub mod MemberTexts
 pub mod Words

@@ -8,20 +8,22 @@ ghost use Rattle.dd_version.specs.Fitting.{is_empty};
 ghost use Rattle.dd_report.specs.Batches.{Adds, CanSettle, IsReady, KeepsPending, digest_line, files_of};
 ghost use Rattle.dd_report.specs.Batches.{pending_files, pending_text, report_of};
 ghost use Rattle.dd_report.specs.Checking.{file_line, most_read};
-ghost use Rattle.dd_report.specs.Telling.{Tells, way_of};
+ghost use Rattle.dd_lines.specs.Telling.{Tells, way_of};
 
 use crate::findings::{Expected, Finding, digest_finding};
-use crate::line_buffer::LineBuffer;
 use crate::telling::tell_finding;
 use dd_elem::{Read, Write};
 use dd_files::{Files, PIECE, Progress, SOURCE_LIMIT, fill_slot};
+use dd_json::Style;
+use dd_lines::LineBuffer;
 use dd_slots::{Slot, digest_slots};
 use std::alloc::Global;
 use std::{fmt, mem};
 
-/// What the line of a finding says of a record.
+/// What the line of a finding says of a record, and how.
 #[derive(Clone, Copy)]
 pub(crate) struct Named<'t> {
+    pub(crate) style: Style,
     /// The offset of the record.
     pub(crate) at: u32,
     /// The File ID of its file.
@@ -41,7 +43,11 @@ impl<'t> PendingFile<'t> {
     fn new(alloc: Global) -> PendingFile<'t> {
         PendingFile {
             slot: Slot::new(alloc),
-            named: Named { at: 0, file: &[] },
+            named: Named {
+                style: Style::Text,
+                at: 0,
+                file: &[],
+            },
             expected: Expected {
                 recorded: [0; 32],
                 otherwise: None,
@@ -80,14 +86,15 @@ impl<'t> PendingFile<'t> {
         lines: &mut LineBuffer<'_, W>,
     ) -> Result<bool, fmt::Error>
         ensures same { lines.new.to.ghost_name ≡ lines.old.to.ghost_name }
-        ensures told { Tells result (file_line self.now.named.at self.now.named.file.now (Some finding.now))
+        ensures told { Tells result (file_line self.now.named.style self.now.named.at self.now.named.file.now
+            (Some finding.now))
             (way_of W.Write lines.old) (way_of W.Write lines.new) }
         ensures found { IfOk result (λ found. found ≡ true) }
         ensures kept { F.held files.new ≡ F.held files.old }
         ensures refusals { F.refusals files.new ≡ F.refusals files.old }
     {
         files.hide_line();
-        match tell_finding(self.named.at, self.named.file, finding, lines) {
+        match tell_finding(self.named, finding, lines) {
             Ok(()) => Ok(true),
             Err(fault) => Err(fault),
         }

@@ -10,20 +10,20 @@ ghost use Rattle.dd_report.specs.Batches.{Closes, IsReady, KeepsPending, KeepsBy
 ghost use Rattle.dd_report.specs.Checking.{Checks, ChecksAll, FindsFile, TellsFirst, TellsSome, TellsWalk};
 ghost use Rattle.dd_report.specs.Checking.{end_line, most_read};
 ghost use Rattle.dd_report.specs.Finding.{FindsBy};
-ghost use Rattle.dd_report.specs.Telling.{Tells, way_of};
-ghost use Rattle.dd_report.specs.Text.{FailsInText, TakesText};
+ghost use Rattle.dd_lines.specs.Telling.{Tells, way_of};
+ghost use Rattle.dd_lines.specs.Text.{FailsInText, TakesText};
 
 use crate::agreements::{Inherited, judge_by_keys};
-use crate::batch::Batch;
-use crate::findings::{Judgement, finding_unopened, id_of, judge_by_digest};
-use crate::line_buffer::LineBuffer;
+use crate::batch::{Batch, Named};
+use crate::findings::{Judgement, file_in, finding_unopened, id_of, judge_by_digest};
 use crate::listing::record_count;
-use crate::telling::tell_judgement;
+use crate::telling::{tell_judgement, tell_right, tell_unreached};
 use dd_dir::{Forest, Tree};
 use dd_elem::{Memory, Read, Write};
 use dd_files::{Files, Progress, Step, file_path};
+use dd_json::Style;
 use dd_layout::Level;
-use itoa::Buffer;
+use dd_lines::LineBuffer;
 use std::alloc::Global;
 use std::fmt;
 
@@ -55,6 +55,8 @@ pub struct Check<'a> {
     pub folder: &'a str,
     /// What is compared.
     pub comparison: Comparison,
+    /// How findings are printed.
+    pub style: Style,
 }
 
 /// A check where the records above say this.
@@ -76,19 +78,19 @@ pub fn check_records<F: Files + Progress, W: Write>(
 ) -> Result<bool, CheckFault>
     ensures told { IfOk result (λ found. (text : List ℕ)
         × TellsWalk F.In.Read (F.held files.old)
-        check.entry.folder.now check.entry.comparison
+        check.entry.folder.now check.entry.comparison check.entry.style
         (walk_view forest.now) found (F.refusals files.old) (F.refusals files.new) text
         × TakesText W.Write to.old to.new text) }
 
     ensures cut { result ≡ Err CheckFault.Memory → (text : List ℕ)
         × TellsFirst F.In.Read (F.held files.old)
-        check.entry.folder.now check.entry.comparison
+        check.entry.folder.now check.entry.comparison check.entry.style
         (standings_below [] (walk_view forest.now).trees)
         (F.refusals files.old) (F.refusals files.new) text
         × TakesText W.Write to.old to.new text }
     ensures unsent { result ≡ Err CheckFault.Unsent → (text : List ℕ)
         × TellsSome F.In.Read (F.held files.old)
-        check.entry.folder.now check.entry.comparison
+        check.entry.folder.now check.entry.comparison check.entry.style
         (walk_view forest.now) (F.refusals files.old) (F.refusals files.new) text
         × FailsInText W.Write to.old to.new text }
 
@@ -119,13 +121,13 @@ fn check_forest<F: Files + Progress, W: Write>(
 ) -> Result<bool, CheckFault>
     ensures same { lines.new.to.ghost_name ≡ lines.old.to.ghost_name }
     ensures checks { ChecksAll F.In.Read (F.held files.old)
-        check.entry.folder.now check.entry.comparison
+        check.entry.folder.now check.entry.comparison check.entry.style
         (walk_view forest.now) result (F.refusals files.old) (F.refusals files.new)
         (way_of W.Write lines.old) (way_of W.Write lines.new) }
     ensures kept { F.held files.new ≡ F.held files.old }
 {
     let found = check_counted(check, &forest.trees, files, lines)?;
-    match tell_end(forest, found, lines) {
+    match tell_end(forest, found, check.style, lines) {
         Ok(()) => Ok(found || forest.unreached > 0),
         Err(_) => Err(CheckFault::Unsent),
     }
@@ -140,7 +142,7 @@ fn check_counted<F: Files + Progress, W: Write>(
 ) -> Result<bool, CheckFault>
     ensures same { lines.new.to.ghost_name ≡ lines.old.to.ghost_name }
     ensures checks { Checks F.In.Read (F.held files.old)
-        check.entry.folder.now check.entry.comparison
+        check.entry.folder.now check.entry.comparison check.entry.style
         (standings_below [] (trees_view trees.now)) result
         (F.refusals files.old) (F.refusals files.new)
         (way_of W.Write lines.old) (way_of W.Write lines.new) }
@@ -190,23 +192,21 @@ fn found_at_end<F: Files + Progress, W: Write>(
 fn tell_end<W: Write>(
     forest: &Forest<'_>,
     found: bool,
+    style: Style,
     lines: &mut LineBuffer<'_, W>,
 ) -> fmt::Result
     ensures same { lines.new.to.ghost_name ≡ lines.old.to.ghost_name }
     ensures written { (findings : List ℕ) → found ≡ not (is_empty findings)
-        → Tells result (end_line findings (walk_view forest.now))
+        → Tells result (end_line style findings (walk_view forest.now))
         (way_of W.Write lines.old) (way_of W.Write lines.new) }
 {
-    let mut number = Buffer::new();
     if forest.unreached > 0 {
-        let unreached = number.format(forest.unreached).as_bytes();
-        return lines.add_line(&[b"UNREACHED ", unreached]);
+        return tell_unreached(forest.unreached, style, lines);
     }
     if found {
         return Ok(());
     }
-    let records = number.format(record_count(&forest.trees)).as_bytes();
-    lines.add_line(&[b"OK ", records, b" records"])
+    tell_right(record_count(&forest.trees), style, lines)
 }
 
 #[cycle(findings)]
@@ -222,7 +222,7 @@ fn check_trees<'t, F: Files + Progress, W: Write>(
     ensures ready { IsReady batch.new }
     ensures checks { (above : List Node) → IsInherited at.entry.inherited above
         → Reports F.In.Read (F.held files.old)
-        at.entry.check.folder.now at.entry.check.comparison
+        at.entry.check.folder.now at.entry.check.comparison at.entry.check.style
         (standings_below above (trees_view trees.now)) result
         (F.refusals files.old) (F.refusals files.new)
         (report_of W.Write lines.old batch.old) (report_of W.Write lines.new batch.new) }
@@ -247,7 +247,7 @@ fn check_tree<'t, F: Files + Progress, W: Write>(
     ensures ready { IsReady batch.new }
     ensures checks { (above : List Node) → IsInherited at.entry.inherited above
         → Reports F.In.Read (F.held files.old)
-        at.entry.check.folder.now at.entry.check.comparison
+        at.entry.check.folder.now at.entry.check.comparison at.entry.check.style
         (branch_standings above (tree_view tree.now)) result
         (F.refusals files.old) (F.refusals files.new)
         (report_of W.Write lines.old batch.old) (report_of W.Write lines.new batch.new) }
@@ -276,7 +276,7 @@ fn check_record<'t, F: Files + Progress, W: Write>(
     ensures checks { (above : List Node)
         → IsInherited at.entry.inherited ((tree_view tree.now).node ∷ above)
         → Reports F.In.Read (F.held files.old)
-        at.entry.check.folder.now at.entry.check.comparison
+        at.entry.check.folder.now at.entry.check.comparison at.entry.check.style
         (standing_below above (tree_view tree.now).node ∷ []) result
         (F.refusals files.old) (F.refusals files.new)
         (report_of W.Write lines.old batch.old) (report_of W.Write lines.new batch.new) }
@@ -286,7 +286,12 @@ fn check_record<'t, F: Files + Progress, W: Write>(
         return Err(CheckFault::Memory);
     };
     files.advance();
-    match tell_judgement(tree, judgement, files, lines, batch) {
+    let named = Named {
+        style: at.check.style,
+        at: tree.at,
+        file: file_in(tree),
+    };
+    match tell_judgement(named, judgement, files, lines, batch) {
         Ok(()) => Ok(()),
         Err(_) => Err(CheckFault::Unsent),
     }

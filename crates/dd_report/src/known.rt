@@ -3,12 +3,12 @@ ghost use Rattle.std.specs.Prelude.{◌≡◌, ◌∷◌, [], codes};
 ghost use Rattle.std.specs.List.{concat, flat_map};
 ghost use Rattle.dd_set.specs.Views.{set_view};
 ghost use Rattle.dd_report.specs.Listing.{known_tags, tags_in, value_parts};
-ghost use Rattle.dd_report.specs.Telling.{Tells, shown, way_of};
+ghost use Rattle.dd_lines.specs.Telling.{Tells, shown, way_of};
 
-use crate::line_buffer::LineBuffer;
 use crate::listing::value_or_dash;
 use dd_elem::{Tag, Write, tags};
 use dd_layout::Level;
+use dd_lines::LineBuffer;
 use dd_set::DataSet;
 use std::fmt;
 

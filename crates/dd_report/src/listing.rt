@@ -1,5 +1,5 @@
 //! The records of a directory, and what is withdrawn, as lines.
-ghost use Rattle.std.specs.Prelude.{◌≡◌, ◌∷◌, OnErr, OnOk, option_map};
+ghost use Rattle.std.specs.Prelude.{◌≡◌, ◌∷◌, [], OnErr, OnOk, codes, decimal, option_map};
 ghost use Rattle.std.specs.List.{concat};
 ghost use Rattle.dd_elem.specs.Device.{counted};
 ghost use Rattle.dd_keys.specs.Values.{value_at};
@@ -8,57 +8,90 @@ ghost use Rattle.dd_dir.specs.ForestViews.{tree_view, trees_view, walk_view};
 ghost use Rattle.dd_dir.specs.Withdrawn.{pieces_in, pieces_of};
 ghost use Rattle.dd_report.specs.Listing.{branch_lines, flag_of, label_of, label_tag, lines_in, lines_of};
 ghost use Rattle.dd_report.specs.Listing.{listing, long_listing, or_dash, record_count, record_line, record_parts};
-ghost use Rattle.dd_report.specs.Listing.{set_parts, spaced, totals_line, withdrawn_line, withdrawn_lines};
-ghost use Rattle.dd_report.specs.Telling.{Tells, shown, shown_line, way_of};
-ghost use Rattle.dd_report.specs.Text.{FailsInText, TakesText};
+ghost use Rattle.dd_report.specs.Listing.{set_line, set_parts, spaced, totals_line, withdrawn_line, withdrawn_lines};
+ghost use Rattle.dd_lines.specs.Telling.{Tells, shown, shown_line, way_of};
+ghost use Rattle.dd_json.specs.declared.value.Style.TheVariants.{Text};
+ghost use Rattle.dd_lines.specs.Text.{FailsInText, TakesText};
 
 use crate::known::{Form, add_values, tags_in};
-use crate::line_buffer::LineBuffer;
+use crate::record_json::{add_record, add_set, add_totals, add_withdrawn};
 use dd_dir::{Forest, Tree};
 use dd_elem::{Tag, Write};
+use dd_json::Style;
 use dd_keys::value_at;
 use dd_layout::Level;
 use dd_layout::table::{FILE, PATIENT_ID, SERIES_UID, STUDY_UID};
+use dd_lines::LineBuffer;
 use dd_set::DataSet;
 use itoa::Buffer;
 use std::fmt;
 
 /// Lists a directory: a line for each record, depth first, one for each piece of the value that names the withdrawn SOP
 /// Instance UIDs, and how many records there are. In the long form a first line has the File-set ID and the UID of the
-/// directory. Then the line of each PATIENT, STUDY, SERIES and IMAGE record also has the values by which a person
-/// recognises it. It fails only where the output does, and takes no memory.
-pub fn list_records<W: Write>(forest: &Forest<'_>, form: Form, to: &mut W) -> fmt::Result
+/// directory. Then the line of each PATIENT, STUDY, SERIES and IMAGE record in words also has the values by which a
+/// person recognises it; in JSON each record also has its data set in the DICOM JSON model. It fails only where the
+/// output does, and takes no memory.
+pub fn list_records<W: Write>(
+    forest: &Forest<'_>,
+    form: Form,
+    style: Style,
+    to: &mut W,
+) -> fmt::Result
     ensures sent { OnOk result
-        (TakesText W.Write to.old to.new (listing form (walk_view forest.now))) }
+        (TakesText W.Write to.old to.new (listing style form (walk_view forest.now))) }
     ensures unsent { OnErr result
-        (FailsInText W.Write to.old to.new (listing form (walk_view forest.now))) }
+        (FailsInText W.Write to.old to.new (listing style form (walk_view forest.now))) }
 {
     let mut lines = LineBuffer::new(to);
-    list_all(forest, form, &mut lines)?;
+    list_all(forest, form, style, &mut lines)?;
     lines.flush()
 }
 
-fn list_all<W: Write>(forest: &Forest<'_>, form: Form, lines: &mut LineBuffer<'_, W>) -> fmt::Result
+fn list_all<W: Write>(
+    forest: &Forest<'_>,
+    form: Form,
+    style: Style,
+    lines: &mut LineBuffer<'_, W>,
+) -> fmt::Result
     ensures same { lines.new.to.ghost_name ≡ lines.old.to.ghost_name }
-    ensures written { Tells result (listing form (walk_view forest.now))
+    ensures written { Tells result (listing style form (walk_view forest.now))
         (way_of W.Write lines.old) (way_of W.Write lines.new) }
 {
     match form {
-        Form::Short => list_forest(forest, Form::Short, lines),
-        Form::Long => list_set(forest, lines),
+        Form::Short => list_forest(forest, Form::Short, style, lines),
+        Form::Long => list_set(forest, style, lines),
     }
 }
 
-fn list_set<W: Write>(forest: &Forest<'_>, lines: &mut LineBuffer<'_, W>) -> fmt::Result
+fn list_set<W: Write>(
+    forest: &Forest<'_>,
+    style: Style,
+    lines: &mut LineBuffer<'_, W>,
+) -> fmt::Result
     ensures same { lines.new.to.ghost_name ≡ lines.old.to.ghost_name }
-    ensures written { Tells result (long_listing (walk_view forest.now))
+    ensures written { Tells result (long_listing style (walk_view forest.now))
         (way_of W.Write lines.old) (way_of W.Write lines.new) }
 {
-    list_names(or_dash(Some(forest.id)), forest.uid.as_bytes(), lines)?;
-    list_forest(forest, Form::Long, lines)
+    list_names(forest, style, lines)?;
+    list_forest(forest, Form::Long, style, lines)
 }
 
-fn list_names<W: Write>(id: &[u8], uid: &[u8], lines: &mut LineBuffer<'_, W>) -> fmt::Result
+fn list_names<W: Write>(
+    forest: &Forest<'_>,
+    style: Style,
+    lines: &mut LineBuffer<'_, W>,
+) -> fmt::Result
+    ensures same { lines.new.to.ghost_name ≡ lines.old.to.ghost_name }
+    ensures written { Tells result (set_line style (walk_view forest.now))
+        (way_of W.Write lines.old) (way_of W.Write lines.new) }
+{
+    match style {
+        Style::Text => list_set_words(or_dash(Some(forest.id)), forest.uid.as_bytes(), lines),
+        Style::Json => add_set(forest.id, forest.uid.as_bytes(), lines),
+    }
+}
+
+fn list_set_words<W: Write>(id: &[u8], uid: &[u8], lines: &mut LineBuffer<'_, W>) -> fmt::Result
     ensures same { lines.new.to.ghost_name ≡ lines.old.to.ghost_name }
     ensures written { Tells result (shown_line (set_parts id.now uid.now))
         (way_of W.Write lines.old) (way_of W.Write lines.new) }
@@ -69,15 +102,16 @@ fn list_names<W: Write>(id: &[u8], uid: &[u8], lines: &mut LineBuffer<'_, W>) ->
 fn list_forest<W: Write>(
     forest: &Forest<'_>,
     form: Form,
+    style: Style,
     lines: &mut LineBuffer<'_, W>,
 ) -> fmt::Result
     ensures same { lines.new.to.ghost_name ≡ lines.old.to.ghost_name }
-    ensures written { Tells result (lines_in form (walk_view forest.now))
+    ensures written { Tells result (lines_in style form (walk_view forest.now))
         (way_of W.Write lines.old) (way_of W.Write lines.new) }
 {
-    list_trees(&forest.trees, 0, form, lines)?;
-    list_withdrawn(forest.withdrawn, lines)?;
-    list_totals(forest, lines)
+    list_trees(&forest.trees, 0, form, style, lines)?;
+    list_withdrawn(forest.withdrawn, style, lines)?;
+    list_totals(forest, style, lines)
 }
 
 #[cycle(lines)]
@@ -85,14 +119,15 @@ fn list_trees<W: Write>(
     trees: &[Tree<'_>],
     level: u64,
     form: Form,
+    style: Style,
     lines: &mut LineBuffer<'_, W>,
 ) -> fmt::Result
     ensures same { lines.new.to.ghost_name ≡ lines.old.to.ghost_name }
-    ensures written { Tells result (lines_of form level (trees_view trees.now))
+    ensures written { Tells result (lines_of style form level (trees_view trees.now))
         (way_of W.Write lines.old) (way_of W.Write lines.new) }
 {
     for tree in trees {
-        list_tree(tree, level, form, lines)?;
+        list_tree(tree, level, form, style, lines)?;
     }
     Ok(())
 }
@@ -102,24 +137,42 @@ fn list_tree<W: Write>(
     tree: &Tree<'_>,
     level: u64,
     form: Form,
+    style: Style,
     lines: &mut LineBuffer<'_, W>,
 ) -> fmt::Result
     ensures same { lines.new.to.ghost_name ≡ lines.old.to.ghost_name }
-    ensures written { Tells result (branch_lines form level (tree_view tree.now))
+    ensures written { Tells result (branch_lines style form level (tree_view tree.now))
         (way_of W.Write lines.old) (way_of W.Write lines.new) }
 {
-    list_record(tree, level, form, lines)?;
-    list_trees(&tree.below, level.saturating_add(1), form, lines)
+    list_record(tree, level, form, style, lines)?;
+    list_trees(&tree.below, level.saturating_add(1), form, style, lines)
 }
 
 fn list_record<W: Write>(
     tree: &Tree<'_>,
     level: u64,
     form: Form,
+    style: Style,
     lines: &mut LineBuffer<'_, W>,
 ) -> fmt::Result
     ensures same { lines.new.to.ghost_name ≡ lines.old.to.ghost_name }
-    ensures written { Tells result (record_line form level (tree_view tree.now).node)
+    ensures written { Tells result (record_line style form level (tree_view tree.now).node)
+        (way_of W.Write lines.old) (way_of W.Write lines.new) }
+{
+    match style {
+        Style::Text => list_in_words(tree, level, form, lines),
+        Style::Json => add_record(tree, level, form, lines),
+    }
+}
+
+fn list_in_words<W: Write>(
+    tree: &Tree<'_>,
+    level: u64,
+    form: Form,
+    lines: &mut LineBuffer<'_, W>,
+) -> fmt::Result
+    ensures same { lines.new.to.ghost_name ≡ lines.old.to.ghost_name }
+    ensures written { Tells result (record_line Text form level (tree_view tree.now).node)
         (way_of W.Write lines.old) (way_of W.Write lines.new) }
 {
     lines.add_indent(level)?;
@@ -175,7 +228,7 @@ fn or_dash<'v>(value: Option<&'v [u8]>) -> &'v [u8]
     }
 }
 
-fn label_tag(kind: &[u8]) -> Tag
+pub(crate) fn label_tag(kind: &[u8]) -> Tag
     ensures { result ≡ label_tag kind.now }
 {
     if kind == Level::Patient.kind() {
@@ -197,27 +250,31 @@ fn flag_of<'t>(tree: &'t Tree<'_>) -> &'t [u8]
 }
 
 /// Lists a line for each piece of the value; no lines where the value is absent.
-fn list_withdrawn<W: Write>(value: Option<&[u8]>, lines: &mut LineBuffer<'_, W>) -> fmt::Result
+fn list_withdrawn<W: Write>(
+    value: Option<&[u8]>,
+    style: Style,
+    lines: &mut LineBuffer<'_, W>,
+) -> fmt::Result
     ensures same { lines.new.to.ghost_name ≡ lines.old.to.ghost_name }
     ensures written { Tells result
-        (withdrawn_lines (pieces_in (option_map (λ value. value.now) value.entry)))
+        (withdrawn_lines style (pieces_in (option_map (λ value. value.now) value.entry)))
         (way_of W.Write lines.old) (way_of W.Write lines.new) }
 {
     match value {
         None => Ok(()),
-        Some(value) => list_pieces(value, lines),
+        Some(value) => list_pieces(value, style, lines),
     }
 }
 
-fn list_pieces<W: Write>(value: &[u8], lines: &mut LineBuffer<'_, W>) -> fmt::Result
+fn list_pieces<W: Write>(value: &[u8], style: Style, lines: &mut LineBuffer<'_, W>) -> fmt::Result
     ensures same { lines.new.to.ghost_name ≡ lines.old.to.ghost_name }
-    ensures written { Tells result (withdrawn_lines (pieces_of value.now))
+    ensures written { Tells result (withdrawn_lines style (pieces_of value.now))
         (way_of W.Write lines.old) (way_of W.Write lines.new) }
 {
     let mut rest = Some(value);
     while let Some(value) = rest {
         let (piece, after) = first_piece(value);
-        list_piece(piece, lines)?;
+        list_piece(piece, style, lines)?;
         rest = after;
     }
     Ok(())
@@ -234,24 +291,44 @@ fn first_piece(value: &[u8]) -> (&[u8], Option<&[u8]>)
     }
 }
 
-/// Lists this piece, an empty one as `-`.
-fn list_piece<W: Write>(piece: &[u8], lines: &mut LineBuffer<'_, W>) -> fmt::Result
+/// Lists this piece; in words an empty one is `-`.
+fn list_piece<W: Write>(piece: &[u8], style: Style, lines: &mut LineBuffer<'_, W>) -> fmt::Result
     ensures same { lines.new.to.ghost_name ≡ lines.old.to.ghost_name }
-    ensures written { Tells result (withdrawn_line piece.now)
+    ensures written { Tells result (withdrawn_line style piece.now)
         (way_of W.Write lines.old) (way_of W.Write lines.new) }
 {
-    lines.add_line(&[b"WITHDRAWN ", or_dash(Some(piece))])
+    match style {
+        Style::Text => lines.add_line(&[b"WITHDRAWN ", or_dash(Some(piece))]),
+        Style::Json => add_withdrawn(piece, lines),
+    }
 }
 
-fn list_totals<W: Write>(forest: &Forest<'_>, lines: &mut LineBuffer<'_, W>) -> fmt::Result
+fn list_totals<W: Write>(
+    forest: &Forest<'_>,
+    style: Style,
+    lines: &mut LineBuffer<'_, W>,
+) -> fmt::Result
     ensures same { lines.new.to.ghost_name ≡ lines.old.to.ghost_name }
-    ensures written { Tells result (totals_line (walk_view forest.now))
+    ensures written { Tells result (totals_line style (walk_view forest.now))
         (way_of W.Write lines.old) (way_of W.Write lines.new) }
 {
-    let (mut count, mut unreached) = (Buffer::new(), Buffer::new());
-    let count = count.format(record_count(&forest.trees)).as_bytes();
-    let unreached = unreached.format(forest.unreached).as_bytes();
-    lines.add_line(&[count, b" records, ", unreached, b" unreached"])
+    let (records, unreached) = (record_count(&forest.trees), forest.unreached);
+    match style {
+        Style::Text => list_counts(records, unreached, lines),
+        Style::Json => add_totals(records, unreached, lines),
+    }
+}
+
+fn list_counts<W: Write>(records: u64, unreached: u64, lines: &mut LineBuffer<'_, W>) -> fmt::Result
+    ensures same { lines.new.to.ghost_name ≡ lines.old.to.ghost_name }
+    ensures written { Tells result (shown_line
+        (decimal records ∷ codes " records, " ∷ decimal unreached ∷ codes " unreached" ∷ []))
+        (way_of W.Write lines.old) (way_of W.Write lines.new) }
+{
+    let (mut first, mut second) = (Buffer::new(), Buffer::new());
+    let records = first.format(records).as_bytes();
+    let unreached = second.format(unreached).as_bytes();
+    lines.add_line(&[records, b" records, ", unreached, b" unreached"])
 }
 
 /// How many records there are in these trees, as a count.

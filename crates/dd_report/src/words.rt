@@ -4,12 +4,12 @@ ghost use Rattle.std.specs.Fmt.{digit_glyph};
 ghost use Rattle.hex.specs.Hex.{encode_lower};
 ghost use Rattle.dd_elem.specs.Tag.{four_digits, text_of};
 ghost use Rattle.dd_report.specs.Checking.{differs_parts};
-ghost use Rattle.dd_report.specs.Telling.{Tells, shown_line, way_of};
+ghost use Rattle.dd_lines.specs.Telling.{Tells, shown_line, way_of};
 ghost use Rattle.dd_report.specs.Words.{file_words, mislabelled_parts, set_words};
 
-use crate::line_buffer::LineBuffer;
 use dd_elem::{Tag, Write};
 use dd_files::digest_text;
+use dd_lines::LineBuffer;
 use dd_part10::FileFault;
 use dd_set::SetFault;
 use std::fmt;
@@ -65,7 +65,7 @@ fn tell_words<W: Write>(
     lines.add_line(&[b"MISLABELLED ", file, b" ", b"31 File ", words, of])
 }
 
-fn set_words(fault: SetFault) -> &'static [u8]
+pub(crate) fn set_words(fault: SetFault) -> &'static [u8]
     ensures { result.now ≡ set_words fault }
 {
     match fault {
@@ -83,7 +83,7 @@ fn set_words(fault: SetFault) -> &'static [u8]
     }
 }
 
-fn tag_text(tag: Tag) -> [u8; 11]
+pub(crate) fn tag_text(tag: Tag) -> [u8; 11]
     ensures { result ≡ text_of tag }
 {
     let [a, b, c, d] = four_digits(tag.group);

@@ -12,7 +12,8 @@ check_tree-returns-in_err-check_record-clause-checks g t c = λ above said.
     let p = err_from_is_err_and r c.from_residual.ensures.1 in
     let fails : r ≡ Err c.in_err-check_record.field-0.0 = rw (p.1, p.2) refl in
     record_ends g.F.In.Read
-    (g.F.Files.held c.args.files.now) c.args.at.check.folder.now c.args.at.check.comparison (tt {0}) above c.args.tree.now r
+    (g.F.Files.held c.args.files.now) c.args.at.check.folder.now c.args.at.check.comparison c.args.at.check.style
+    (tt {0}) above c.args.tree.now r
     c.check_record.result c.in_err-check_record.field-0.0 (g.F.Files.refusals c.args.files.now)
     (g.F.Files.refusals c.check_record.new.files) _ _ fails c.in_err-check_record.was
     (c.check_record.ensures.checks above below)
@@ -21,7 +22,7 @@ pub check_tree-returns-clause-checks : goal.check_tree-returns-clause-checks
 check_tree-returns-clause-checks g t c = λ above said.
     let below = c.under-inherited.ensures above said in
     branch_told g.F.In.Read
-    (g.F.Files.held c.args.files.now) c.args.at.check.folder.now c.args.at.check.comparison above
+    (g.F.Files.held c.args.files.now) c.args.at.check.folder.now c.args.at.check.comparison c.args.at.check.style above
     (g.F.Files.held c.check_record.new.files) c.args.tree.now c.deref.result.now (tt {0})
     c.check_trees.result (g.F.Files.refusals c.args.files.now)
     (g.F.Files.refusals c.check_record.new.files) (g.F.Files.refusals c.check_trees.new.files) _ _ _
@@ -35,7 +36,7 @@ check_trees-returns-in_err-check_tree-clause-checks g t c = λ above said.
     let p = err_from_is_err_and r c.from_residual.ensures.1 in
     let fails : r ≡ Err c.in_err-check_tree.field-0.0 = rw (p.1, p.2) refl in
     trees_end g.F.In.Read
-    (g.F.Files.held c.args.files.now) c.args.at.check.folder.now c.args.at.check.comparison above
+    (g.F.Files.held c.args.files.now) c.args.at.check.folder.now c.args.at.check.comparison c.args.at.check.style above
     (g.F.Files.held c.loop-tree.files) c.args.trees.now c.loop-tree.tree-index c.tree-item.result r
     c.check_tree.result c.in_err-check_tree.field-0.0 (tt {0}) (g.F.Files.refusals c.args.files.now)
     (g.F.Files.refusals c.loop-tree.files) (g.F.Files.refusals c.check_tree.new.files) _ _ _
@@ -48,7 +49,8 @@ check_trees-loop-tree-init g t c = record {
   ready = c.requires;
   checked = λ above said.
       none_told g.F.In.Read
-      (g.F.Files.held c.args.files.now) c.args.at.check.folder.now c.args.at.check.comparison (tt {0})
+      (g.F.Files.held c.args.files.now) c.args.at.check.folder.now c.args.at.check.comparison c.args.at.check.style
+      (tt {0})
       (g.F.Files.refusals c.args.files.now) _;
   kept = refl;
 }
@@ -59,7 +61,8 @@ check_trees-loop-tree-preserved g t c = record {
   ready = c.in_ok-check_tree.ensures.ready;
   checked = λ above said.
       more_told g.F.In.Read
-      (g.F.Files.held c.args.files.now) c.args.at.check.folder.now c.args.at.check.comparison above
+      (g.F.Files.held c.args.files.now) c.args.at.check.folder.now c.args.at.check.comparison c.args.at.check.style
+      above
       (g.F.Files.held c.loop-tree.files) c.args.trees.now c.loop-tree.tree-index c.tree-item.result
       (tt {0}) (tt {0}) (tt {0}) (g.F.Files.refusals c.args.files.now)
       (g.F.Files.refusals c.loop-tree.files) (g.F.Files.refusals c.check_tree.new.files) _ _ _

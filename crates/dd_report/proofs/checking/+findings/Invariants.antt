@@ -12,7 +12,7 @@ invariant-check_trees-loop-tree g l = record {
   ready : IsReady l.batch;
   checked : (above : List Node) → IsInherited l.at.inherited above
       → Reports g.F.In.Read
-      (g.F.Files.held l.initial.files) l.at.check.folder.now l.at.check.comparison
+      (g.F.Files.held l.initial.files) l.at.check.folder.now l.at.check.comparison l.at.check.style
       (standings_below above (trees_view (take l.tree-index l.trees))) (Ok (tt {0}))
       (g.F.Files.refusals l.initial.files) (g.F.Files.refusals l.files)
       (report_of g.W.Write l.initial.lines l.initial.batch) (report_of g.W.Write l.lines l.batch);

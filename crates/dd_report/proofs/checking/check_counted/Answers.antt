@@ -3,7 +3,7 @@ use Rattle.std.proofs.Common.{[], ◌∙◌}
 use Rattle.dd_dir.specs.ForestViews.{trees_view}
 use Rattle.dd_report.specs.Agreements.{standings_below}
 use Rattle.dd_report.specs.Batches.{report_of}
-use Rattle.dd_report.specs.Telling.{way_of}
+use Rattle.dd_lines.specs.Telling.{way_of}
 use Rattle.dd_report.proofs.Batching.{course_of_none, found_of_none, none_ready}
 use Rattle.dd_report.proofs.ToldTrees.{all_closed}
 use Rattle.dd_report.proofs.checking.check_counted.Goals as goal
@@ -21,7 +21,7 @@ returns-clause-checks g c =
       ← c.begin_step.ensures.refusals,
     )
     (all_closed g.F.In.Read
-    (g.F.Files.held c.begin_step.new.self) c.args.check.folder.now c.args.check.comparison
+    (g.F.Files.held c.begin_step.new.self) c.args.check.folder.now c.args.check.comparison c.args.check.style
     (standings_below [] (trees_view c.args.trees.now)) c.check_trees-checked.result c.found_at_end-found.result
     (g.F.Files.refusals c.begin_step.new.self) (g.F.Files.refusals c.check_trees-checked.new.files)
     (report_of g.W.Write c.args.lines.now c.new-batch.result)

@@ -1,9 +1,10 @@
 -- Once the files that wait are spoken of, no file waits.
 use Rattle.std.proofs.Common.{◌≢◌, Err, refl}
 use Rattle.dd_report.specs.Batches.{report_of}
-use Rattle.dd_report.specs.Telling.{way_of}
+use Rattle.dd_lines.specs.Telling.{way_of}
 use Rattle.dd_report.specs.declared.checking.CheckFault.TheVariants.{Unsent}
-use Rattle.dd_report.proofs.Batching.{closes_err, closes_failed, closes_ok, closes_unsent, course_of_none, found_of_none}
+use Rattle.dd_report.proofs.Batching.{closes_err, closes_failed, closes_ok, closes_unsent, course_of_none}
+use Rattle.dd_report.proofs.Batching.{found_of_none}
 use Rattle.dd_report.proofs.checking.found_at_end.Goals as goal
 
 pub returns-then-is_unsent-clause-found : goal.returns-then-is_unsent-clause-found

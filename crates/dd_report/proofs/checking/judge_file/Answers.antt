@@ -1,5 +1,5 @@
 -- Keys are compared only of an image, where they are asked for.
-use Rattle.std.proofs.Common.{◌∙◌, refl, sym}
+use Rattle.std.proofs.Common.{◌∙◌, sym}
 use Rattle.dd_dir.specs.ForestViews.{tree_view}
 use Rattle.dd_report.specs.Agreements.{is_image, standing_below}
 use Rattle.dd_report.specs.Batches.{judged}

@@ -1,7 +1,7 @@
 -- A value more went, or the writer failed in it.
 use Rattle.std.proofs.Common.{◌∙◌, arith}
 use Rattle.dd_set.specs.Views.{set_view}
-use Rattle.dd_report.proofs.GoingOn.{went_all, went_fails, went_more}
+use Rattle.dd_lines.proofs.GoingOn.{went_all, went_fails, went_more}
 use Rattle.dd_report.proofs.RecordLines.{value_is, value_text, values_each}
 use Rattle.dd_report.proofs.known.add_values.Goals as goal
 
@@ -10,7 +10,8 @@ returns-in_err-add_value-clause-written g c =
     went_fails c.from_residual.result (value_text (set_view c.args.set.now)) c.args.wanted.now c.loop-tag.tag-index
     _ _ _ _ _ _ c.from_residual.ensures.0 c.loop-tag-test.true
     (value_is (set_view c.args.set.now) _ c.value_or_dash.result.now c.value_or_dash.ensures)
-    (values_each (set_view c.args.set.now) c.args.wanted.now) c.loop-tag.invariant.went c.in_err-add_value.ensures.written
+    (values_each (set_view c.args.set.now) c.args.wanted.now) c.loop-tag.invariant.went
+    c.in_err-add_value.ensures.written
 
 pub loop-tag-preserved : goal.loop-tag-preserved
 loop-tag-preserved g c = record {

@@ -4,16 +4,19 @@ use Rattle.dd_report.proofs.listing.list_forest.Goals as goal
 
 pub returns-in_err-list_trees-clause-written : goal.returns-in_err-list_trees-clause-written
 returns-in_err-list_trees-clause-written g c =
-    records_fail c.from_residual.result c.args.form c.args.forest.now c.deref.result.now _ _ c.from_residual.ensures.0
+    records_fail c.from_residual.result c.args.style c.args.form c.args.forest.now c.deref.result.now _ _
+    c.from_residual.ensures.0
     c.deref.ensures.value c.in_err-list_trees.ensures.written
 
 pub returns-in_err-list_withdrawn-clause-written : goal.returns-in_err-list_withdrawn-clause-written
 returns-in_err-list_withdrawn-clause-written g c =
-    withdrawn_fails c.from_residual-in_err-list_withdrawn.result c.args.form c.args.forest.now c.deref.result.now _ _ _
+    withdrawn_fails c.from_residual-in_err-list_withdrawn.result c.args.style c.args.form c.args.forest.now
+    c.deref.result.now _ _ _
     c.from_residual-in_err-list_withdrawn.ensures.0 c.deref.ensures.value c.in_ok-list_trees.ensures.written
     c.in_err-list_withdrawn.ensures.written
 
 pub returns-clause-written : goal.returns-clause-written
 returns-clause-written g c =
-    all_listed c.list_totals.result c.args.form c.args.forest.now c.deref.result.now _ _ _ _ c.deref.ensures.value
+    all_listed c.list_totals.result c.args.style c.args.form c.args.forest.now c.deref.result.now _ _ _ _
+    c.deref.ensures.value
     c.in_ok-list_trees.ensures.written c.in_ok-list_withdrawn.ensures.written c.list_totals.ensures.written

@@ -2,17 +2,18 @@
 use Rattle.std.proofs.Common.{rules}
 use Rattle.dd_dir.specs.ForestViews.{walk_view}
 use Rattle.dd_report.specs.Listing.{listing}
-use Rattle.dd_report.proofs.GoingOn.{text_sent, text_unsent}
+use Rattle.dd_lines.proofs.GoingOn.{text_sent, text_unsent}
 use Rattle.dd_report.proofs.listing.list_records.Goals as goal
 
 pub returns-clause-sent : goal.returns-clause-sent
 returns-clause-sent g c =
-    let sent = text_sent c.flush.result (listing c.args.form (walk_view c.args.forest.now)) _ _ _ _ _ _ _ _
+    let sent = text_sent c.flush.result (listing c.args.style c.args.form (walk_view c.args.forest.now)) _ _ _ _ _ _ _ _
     c.new-lines.ensures.empty c.in_ok-list_all.ensures.written c.flush.ensures.sent in
     search (rules, sent)
 
 pub returns-clause-unsent : goal.returns-clause-unsent
 returns-clause-unsent g c =
-    let unsent = text_unsent c.flush.result (listing c.args.form (walk_view c.args.forest.now)) _ _ _ _ _ _ _ _
+    let unsent = text_unsent c.flush.result (listing c.args.style c.args.form (walk_view c.args.forest.now)) _ _ _ _ _
+    _ _ _
     c.new-lines.ensures.empty c.in_ok-list_all.ensures.written c.flush.ensures.unsent in
     search (rules, unsent)

@@ -1,17 +1,15 @@
 -- A finding is printed, or the file waits for its digest.
-use Rattle.std.proofs.Common.{ℕ, List, ◌∙◌, ap, subst, sym}
-use Rattle.sha2.specs.Sha256.{sha256}
-use Rattle.dd_dir.specs.ForestViews.{tree_view}
-use Rattle.dd_report.specs.Batches.{Adds, KeepsBytes, by_recorded, judged, report_of}
-use Rattle.dd_report.specs.Checking.{finding_line}
+use Rattle.std.proofs.Common.{subst, sym}
+use Rattle.dd_report.specs.Batches.{Adds, KeepsBytes, judged, report_of}
+use Rattle.dd_report.specs.Checking.{file_line}
 use Rattle.dd_report.specs.declared.findings.Judgement.{Judgement}
-use Rattle.dd_report.proofs.ToldTrees.{tree_line}
 use Rattle.dd_report.proofs.telling.tell_judgement.Goals as goal
 
 pub returns-in-Known-clause-told : goal.returns-in-Known-clause-told
 returns-in-Known-clause-told g c =
+    let named = c.args.named in
     subst (λ (j : Judgement). Adds c.tell_known.result
-    (finding_line (tree_view c.args.tree.now).node (judged j c.args.batch.now.next.slot))
+    (file_line named.style named.at named.file.now (judged j c.args.batch.now.next.slot))
     (report_of g.W.Write c.args.lines.now c.args.batch.now)
     (report_of g.W.Write c.tell_known.new.lines c.tell_known.new.batch)) (sym c.in-Known.is) c.tell_known.ensures.told
 
@@ -21,10 +19,8 @@ add-requires-clause-whole g c =
 
 pub returns-in-Pending-clause-told : goal.returns-in-Pending-clause-told
 returns-in-Pending-clause-told g c =
-    let node = (tree_view c.args.tree.now).node in
-    let slot = c.args.batch.now.next.slot in
-    let line = tree_line c.args.tree.now c.file_in.result.now
-    (by_recorded c.in-Pending.expected (sha256 slot.kept.items)) c.file_in.ensures
-    ∙ ap (λ (j : Judgement). finding_line node (judged j slot)) (sym c.in-Pending.is) in
-    subst (λ (text : List ℕ). Adds c.add.result text (report_of g.W.Write c.args.lines.now c.args.batch.now)
-    (report_of g.W.Write c.add.new.lines c.add.new.self)) line c.add.ensures.added
+    let named = c.args.named in
+    subst (λ (j : Judgement). Adds c.add.result
+    (file_line named.style named.at named.file.now (judged j c.args.batch.now.next.slot))
+    (report_of g.W.Write c.args.lines.now c.args.batch.now)
+    (report_of g.W.Write c.add.new.lines c.add.new.self)) (sym c.in-Pending.is) c.add.ensures.added

@@ -1,18 +1,16 @@
 -- What is found of the files that wait is said, and then the finding.
-use Rattle.std.proofs.Common.{ℕ, List, Option, Some, refl, subst, sym, true}
-use Rattle.dd_dir.specs.ForestViews.{tree_view}
+use Rattle.std.proofs.Common.{Option, Some, refl, subst, sym, true}
 use Rattle.dd_report.specs.Batches.{Adds, Grows, report_of}
-use Rattle.dd_report.specs.Checking.{finding_line}
-use Rattle.dd_report.specs.Telling.{Tells, way_of}
+use Rattle.dd_report.specs.Checking.{file_line}
 use Rattle.dd_report.specs.declared.findings.Finding.{Finding}
-use Rattle.dd_report.proofs.Batching.{adds_err, grows_none, known_told, none_ready}
-use Rattle.dd_report.proofs.ToldTrees.{some_line, tree_line}
+use Rattle.dd_report.proofs.Batching.{adds_err, grows_none, known_told, none_ready, some_line}
 use Rattle.dd_report.proofs.telling.tell_known.Goals as goal
 
 pub returns-in_default-clause-told : goal.returns-in_default-clause-told
 returns-in_default-clause-told g c =
+    let named = c.args.named in
     let here = report_of g.W.Write c.args.lines.now c.args.batch.now in
-    subst (λ (o : Option Finding). Grows (finding_line (tree_view c.args.tree.now).node o) here here)
+    subst (λ (o : Option Finding). Grows (file_line named.style named.at named.file.now o) here here)
     (sym c.in_default.is) (grows_none here)
 
 pub returns-in_err-settle-clause-ready : goal.returns-in_err-settle-clause-ready
@@ -20,7 +18,8 @@ returns-in_err-settle-clause-ready g c = none_ready c.settle.new.self c.in_err-s
 
 pub returns-in_err-settle-clause-told : goal.returns-in_err-settle-clause-told
 returns-in_err-settle-clause-told g c =
-    adds_err c.from_residual.result (finding_line (tree_view c.args.tree.now).node c.args.finding)
+    adds_err c.from_residual.result
+    (file_line c.args.named.style c.args.named.at c.args.named.file.now c.args.finding)
     (report_of g.W.Write c.args.lines.now c.args.batch.now) (report_of g.W.Write c.settle.new.lines c.settle.new.self)
     c.from_residual.ensures.0 c.in_err-settle.ensures.settled
 
@@ -31,15 +30,15 @@ returns-clause-ready g c =
 
 pub returns-clause-told : goal.returns-clause-told
 returns-clause-told g c =
-    let node = (tree_view c.args.tree.now).node in
+    let named = c.args.named in
     let settled = c.settle.new.self in
     let start = report_of g.W.Write c.args.lines.now c.args.batch.now in
     let end = report_of g.W.Write c.tell_finding.new.lines (record settled { found = true }) in
-    subst (λ (o : Option Finding). Adds c.tell_finding.result (finding_line node o) start end) (sym c.in-Some.is)
-    (known_told g.W.Write c.tell_finding.result (finding_line node (Some c.in-Some.finding)) c.settle.new.lines
+    subst (λ (o : Option Finding). Adds c.tell_finding.result (file_line named.style named.at named.file.now o) start
+    end)
+    (sym c.in-Some.is)
+    (known_told g.W.Write c.tell_finding.result
+    (file_line named.style named.at named.file.now (Some c.in-Some.finding)) c.settle.new.lines
     c.tell_finding.new.lines start c.settle.new.self (record settled { found = true }) c.in_ok-settle.ensures.settled
-    c.in_ok-settle.ensures.used c.in_ok-settle.ensures.used refl (some_line node c.in-Some.finding)
-    (subst (λ (line : List ℕ). Tells c.tell_finding.result line (way_of g.W.Write c.settle.new.lines)
-    (way_of g.W.Write c.tell_finding.new.lines))
-    (tree_line c.args.tree.now c.file_in.result.now (Some c.in-Some.finding) c.file_in.ensures)
-    c.tell_finding.ensures.written))
+    c.in_ok-settle.ensures.used c.in_ok-settle.ensures.used refl
+    (some_line named.style named.at named.file.now c.in-Some.finding) c.tell_finding.ensures.written)

@@ -1,5 +1,4 @@
 -- What was to be said is said, and then nothing waits.
-use Rattle.std.proofs.Common.{refl}
 use Rattle.dd_report.proofs.Batching.{settle_fails, settle_grows}
 use Rattle.dd_report.proofs.batch.Batch.settle_all.Goals as goal
 

@@ -2,9 +2,9 @@
 use Rattle.std.proofs.Common.{[], ◌∷◌, ◌≡◌, ◌∙◌, arith, refl, sym}
 use Rattle.std.specs.Prelude.{◌||◌}
 use Rattle.dd_report.specs.Batches.{files_of, pending_files, pending_line, pending_text}
-use Rattle.dd_report.specs.Telling.{way_of}
+use Rattle.dd_lines.specs.Telling.{way_of}
 use Rattle.dd_report.proofs.Batching.{AreDigests, found_all, found_more, pending_count, or_false, piece_is}
-use Rattle.dd_report.proofs.GoingOn.{went_all, went_fails, went_more, went_none}
+use Rattle.dd_lines.proofs.GoingOn.{went_all, went_fails, went_more, went_none}
 use Rattle.dd_report.proofs.batch.Batch.tell_all.Goals as goal
 use Rattle.dd_report.proofs.batch.Batch.tell_all.Goals.{then-branch, else-branch}
 
@@ -69,5 +69,6 @@ pub returns-clause-found : goal.returns-clause-found
 returns-clause-found g c =
     let many = pending_count c.args.self.now c.requires in
     let over = c.loop-at-test.false in
-    found_all (pending_files c.args.self.now) c.loop-at.at c.args.self.now.found c.loop-at.found (omega (arith, many, over))
+    found_all (pending_files c.args.self.now) c.loop-at.at c.args.self.now.found c.loop-at.found
+    (omega (arith, many, over))
     c.loop-at.invariant.found

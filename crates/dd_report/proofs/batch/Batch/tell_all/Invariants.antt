@@ -4,8 +4,8 @@ use Rattle.std.specs.Prelude.{◌||◌, not}
 use Rattle.std.specs.List.{flat_map}
 use Rattle.dd_version.specs.Fitting.{is_empty}
 use Rattle.dd_report.specs.Batches.{pending_files, pending_line}
-use Rattle.dd_report.specs.Telling.{way_of}
-use Rattle.dd_report.proofs.GoingOn.{Went}
+use Rattle.dd_lines.specs.Telling.{way_of}
+use Rattle.dd_lines.proofs.GoingOn.{Went}
 use Rattle.dd_report.proofs.batch.Batch.tell_all.Given as goal
 
 abbrev pub invariant-loop-at : goal.invariant-loop-at
