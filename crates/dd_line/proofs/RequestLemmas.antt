@@ -37,6 +37,7 @@ says_parts (ToIndex x) command given h =
       dry_run = h.values.new_set.dry_run;
       link = no_flag (codes "link") given (h.others (codes "link") refl);
       keep_going = h.values.keep_going;
+      json = h.values.new_set.json;
     }
 says_parts (ToMerge x) command given h =
     let out = h.values.new_set.out in
@@ -50,6 +51,7 @@ says_parts (ToMerge x) command given h =
       dry_run = h.values.new_set.dry_run;
       link = h.values.link;
       keep_going = no_flag (codes "keep-going") given (h.others (codes "keep-going") refl);
+      json = h.values.new_set.json;
     }
 says_parts (ToWithdraw x) command given h =
     let out = h.values.new_set.out in
@@ -64,6 +66,7 @@ says_parts (ToWithdraw x) command given h =
       dry_run = h.values.new_set.dry_run;
       link = no_flag (codes "link") given (h.others (codes "link") refl);
       keep_going = no_flag (codes "keep-going") given (h.others (codes "keep-going") refl);
+      json = h.values.new_set.json;
     }
 says_parts (ToCheck x) command given h =
     let out = no_values (codes "out") given (h.others (codes "out") refl) in
@@ -78,6 +81,7 @@ says_parts (ToCheck x) command given h =
       dry_run = no_flag (codes "dry-run") given (h.others (codes "dry-run") refl);
       link = no_flag (codes "link") given (h.others (codes "link") refl);
       keep_going = no_flag (codes "keep-going") given (h.others (codes "keep-going") refl);
+      json = h.values.json;
     }
 says_parts (ToList x) command given h =
     let out = no_values (codes "out") given (h.others (codes "out") refl) in
@@ -92,6 +96,7 @@ says_parts (ToList x) command given h =
       dry_run = no_flag (codes "dry-run") given (h.others (codes "dry-run") refl);
       link = no_flag (codes "link") given (h.others (codes "link") refl);
       keep_going = no_flag (codes "keep-going") given (h.others (codes "keep-going") refl);
+      json = h.values.json;
     }
 
 -- ---- the names

@@ -3,10 +3,10 @@
 --   dicomdir index [OPTIONS] [--files0-from FILE] [-k|--keep-going] OUT SRC...
 --   dicomdir merge [OPTIONS] [--files0-from FILE] [--link] OUT SET...
 --   dicomdir withdraw [OPTIONS] OUT SET UID...
---   dicomdir check [--keys] [--strict] [--quiet] [--verbose] SET
---   dicomdir list [--long] [--verbose] SET
+--   dicomdir check [--keys] [--strict] [--quiet] [--verbose] [--json] SET
+--   dicomdir list [--long] [--verbose] [--json] SET
 --
--- OPTIONS are `[--id ID] [--uid UID] [--max-bytes N] [--strict] [--dry-run] [--quiet] [--verbose]`. Where
+-- OPTIONS are `[--id ID] [--uid UID] [--max-bytes N] [--strict] [--dry-run] [--quiet] [--verbose] [--json]`. Where
 -- `--files0-from` is given, SRC or SET may be left out.
 use Rattle.std.specs.Prelude.{◌≡◌, ◌≢◌, ◌++◌, [], ℕ, List, Option, Some, None, map, string_bytes, String}
 use Rattle.std.specs.Prelude.{Bool, Contains, codes, length, option_map, ◌≤◌, true, false, unwrap_or}
@@ -72,6 +72,9 @@ link_name = codes "link"
 abbrev pub keep_going_name : Text
 keep_going_name = codes "keep-going"
 
+abbrev pub json_name : Text
+json_name = codes "json"
+
 -- the names of the paths
 abbrev pub out_name : Text
 out_name = codes "out"
@@ -135,11 +138,12 @@ labelled_app name = with_rule (with_rule (with_rule (new_app name)
 abbrev pub making_app : Text → App
 making_app name = with_rule (with_rule (labelled_app name) (flag strict_name)) (flag dry_run_name)
 
--- one that writes it: those, and `[--quiet] [--verbose] OUT`
+-- one that writes it: those, and `[--quiet] [--verbose] [--json] OUT`
 abbrev pub writing_app : Text → App
-writing_app name = with_rule (with_rule (with_rule (making_app name)
+writing_app name = with_rule (with_rule (with_rule (with_rule (making_app name)
     (flag quiet_name))
     (flag verbose_name))
+    (flag json_name))
     (one_path out_name)
 
 -- `index`, with the options of a command that writes, and `[--files0-from FILE] [-k|--keep-going] OUT [SRC]...`
@@ -169,13 +173,16 @@ reading_app name = with_rule (new_app name) (one_path set_name)
 abbrev pub comparing_app : App
 comparing_app = with_rule (with_rule (reading_app (verb_name Check)) (flag keys_name)) (flag strict_name)
 
--- `check [--keys] [--strict] [--quiet] [--verbose] SET`
+-- `check [--keys] [--strict] [--quiet] [--verbose] [--json] SET`
 abbrev pub check_app : App
-check_app = with_rule (with_rule comparing_app (flag quiet_name)) (flag verbose_name)
+check_app = with_rule (with_rule (with_rule comparing_app (flag quiet_name)) (flag verbose_name)) (flag json_name)
 
--- `list [--long] [--verbose] SET`
+-- `list [--long] [--verbose] [--json] SET`
 abbrev pub list_app : App
-list_app = with_rule (with_rule (reading_app (verb_name ListSet)) (flag long_name)) (flag verbose_name)
+list_app = with_rule (with_rule (with_rule (reading_app (verb_name ListSet))
+    (flag long_name))
+    (flag verbose_name))
+    (flag json_name)
 
 -- the app has a version, which `--version` asks for
 abbrev pub with_version : App → App
@@ -211,6 +218,7 @@ flags = (keys_name, Check ∷ [])
     ∷ (long_name, ListSet ∷ [])
     ∷ (link_name, Merge ∷ [])
     ∷ (keep_going_name, Index ∷ [])
+    ∷ (json_name, ListSet ∷ Check ∷ makers)
     ∷ []
 
 -- the options with a value and the paths, likewise
@@ -311,6 +319,7 @@ pub record Asks (a : Asked) (command : Text) (given : List Row) : Type 0 where
   pub long : a.long ≡ is_given long_name given
   pub link : a.link ≡ is_given link_name given
   pub keep_going : a.keep_going ≡ is_given keep_going_name given
+  pub json : a.json ≡ is_given json_name given
   pub files0_from : option_map string_bytes a.files0_from ≡ first_of files0_from_name given
 
 -- the line gives the path of one file-set, no ID and no UID, and has the greatest limit

@@ -94,6 +94,7 @@ pub record MakesAsGiven (n : NewSet) (given : List Row) : Type 0 where
   pub dry_run : n.dry_run ≡ is_given line.dry_run_name given
   pub quiet : n.quiet ≡ is_given line.quiet_name given
   pub verbose : n.verbose ≡ is_given line.verbose_name given
+  pub json : n.json ≡ is_given line.json_name given
 
 -- the sources are as the words give them, under this name and in a file of names
 pub record HasSources (name : Text) (given : List Row) (s : Sources) : Type 0 where
@@ -131,11 +132,13 @@ pub record ChecksAsGiven (x : CheckRequest) (given : List Row) : Type 0 where
   pub strict : x.strict ≡ is_given line.strict_name given
   pub quiet : x.quiet ≡ is_given line.quiet_name given
   pub verbose : x.verbose ≡ is_given line.verbose_name given
+  pub json : x.json ≡ is_given line.json_name given
 
 pub record ListsAsGiven (x : ListRequest) (given : List Row) : Type 0 where
   pub set : IsOnly line.set_name given (string_bytes x.set)
   pub long : x.long ≡ is_given line.long_name given
   pub verbose : x.verbose ≡ is_given line.verbose_name given
+  pub json : x.json ≡ is_given line.json_name given
 
 -- the command of a request
 abbrev pub verb_of : Request → Verb
@@ -178,6 +181,7 @@ pub record AsksToMake (n : NewSet) (read : List Text) (a : Asked) : Type 0 where
   pub quiet : a.quiet ≡ n.quiet
   pub verbose : a.verbose ≡ n.verbose
   pub long : a.long ≡ false
+  pub json : a.json ≡ n.json
 
 -- the line asks to read this file-set, and nothing else but by its flags
 pub record AsksToRead (set : Text) (a : Asked) : Type 0 where
@@ -233,6 +237,14 @@ keeps_going (ToWithdraw x) = false
 keeps_going (ToCheck x) = false
 keeps_going (ToList x) = false
 
+-- whether each line is printed as a JSON object
+abbrev pub is_json : Request → Bool
+is_json (ToIndex x) = x.new_set.json
+is_json (ToMerge x) = x.new_set.json
+is_json (ToWithdraw x) = x.new_set.json
+is_json (ToCheck x) = x.json
+is_json (ToList x) = x.json
+
 -- the ID and the UID of the file-set that it makes
 abbrev pub id_of : Request → Option Text
 id_of r = option_and_then (λ n. option_map string_bytes n.id) (new_set_of r)
@@ -268,3 +280,4 @@ pub record SaysParts (r : Request) (command : Text) (given : List Row) : Type 0 
   pub dry_run : is_dry r ≡ is_given line.dry_run_name given
   pub link : links r ≡ is_given line.link_name given
   pub keep_going : keeps_going r ≡ is_given line.keep_going_name given
+  pub json : is_json r ≡ is_given line.json_name given

@@ -2,7 +2,7 @@
 ghost use Rattle.std.specs.Prelude.{◌≡◌, IfOk};
 ghost use Rattle.clap.specs.Words.{kind_of};
 ghost use Rattle.dd_line.specs.Line.{HasApp, HasRule, any_paths, check_app, comparing_app, dicomdir_app};
-ghost use Rattle.dd_line.specs.Line.{files0_from_name, flag, index_app, labelled_app, list_app};
+ghost use Rattle.dd_line.specs.Line.{files0_from_name, flag, index_app, json_name, labelled_app, list_app};
 ghost use Rattle.dd_line.specs.Line.{making_app, merge_app, one_path, reading_app};
 ghost use Rattle.dd_line.specs.Line.{some_paths, text_option, verbose_name, withdraw_app, writing_app};
 
@@ -39,6 +39,8 @@ pub(crate) const LONG: &str = "long";
 pub(crate) const LINK: &str = "link";
 
 pub(crate) const KEEP_GOING: &str = "keep-going";
+
+pub(crate) const JSON: &str = "json";
 
 // The names of the paths.
 pub(crate) const OUT: &str = "out";
@@ -80,6 +82,12 @@ fn verbose<'a>(alloc: Global) -> Arg<'a>
         VERBOSE,
         "Shows hints where there is no terminal, too",
     )
+}
+
+fn json<'a>(alloc: Global) -> Arg<'a>
+    ensures { HasRule (flag json_name) result }
+{
+    flag(alloc, JSON, "Prints each line as a JSON object")
 }
 
 /// Makes a path that has to be given.
@@ -173,6 +181,7 @@ fn writing_command<'a>(
     making_command(alloc, name, about)?
         .arg(flag(alloc, QUIET, "Shows no progress and no hints"))?
         .arg(verbose(alloc))?
+        .arg(json(alloc))?
         .arg(path(
             alloc,
             OUT,
@@ -279,7 +288,8 @@ fn check_command<'a>(alloc: Global) -> Result<Command<'a>, AllocError>
 {
     comparing_command(alloc)?
         .arg(flag(alloc, QUIET, "Shows no progress and no hints"))?
-        .arg(verbose(alloc))
+        .arg(verbose(alloc))?
+        .arg(json(alloc))
 }
 
 fn list_command<'a>(alloc: Global) -> Result<Command<'a>, AllocError>
@@ -293,7 +303,8 @@ fn list_command<'a>(alloc: Global) -> Result<Command<'a>, AllocError>
             LONG,
             "Also prints names, dates, times, modalities and numbers",
         ))?
-        .arg(verbose(alloc))
+        .arg(verbose(alloc))?
+        .arg(json(alloc))
 }
 
 /// Makes a command that makes a file-set, with the name by which the user calls it.

@@ -32,6 +32,7 @@ fn new_set_of(alloc: Global, verb: Verb, given: &ArgMatches<'_>) -> Result<NewSe
         dry_run: flag_of(given, commands::DRY_RUN),
         quiet: flag_of(given, commands::QUIET),
         verbose: flag_of(given, commands::VERBOSE),
+        json: flag_of(given, commands::JSON),
     })
 }
 
@@ -111,6 +112,7 @@ fn check_request(alloc: Global, given: &ArgMatches<'_>) -> Result<Request, Alloc
         strict: flag_of(given, commands::STRICT),
         quiet: flag_of(given, commands::QUIET),
         verbose: flag_of(given, commands::VERBOSE),
+        json: flag_of(given, commands::JSON),
     }))
 }
 
@@ -123,6 +125,7 @@ fn list_request(alloc: Global, given: &ArgMatches<'_>) -> Result<Request, AllocE
         set: path_of(alloc, given, commands::SET)?,
         long: flag_of(given, commands::LONG),
         verbose: flag_of(given, commands::VERBOSE),
+        json: flag_of(given, commands::JSON),
     }))
 }
 

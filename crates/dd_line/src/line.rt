@@ -59,6 +59,8 @@ pub struct Asked {
     pub link: bool,
     /// `--keep-going`: `index` skips a source that can't be opened or read.
     pub keep_going: bool,
+    /// `--json`: each line is printed as a JSON object.
+    pub json: bool,
     /// `--files0-from` of `index` and `merge`: the file that holds names of more sources, each ended by a zero byte.
     pub files0_from: Option<String>,
 }
@@ -126,6 +128,7 @@ fn making_line(
         long: false,
         link: false,
         keep_going: false,
+        json: new_set.json,
         files0_from: None,
     })
 }
@@ -151,7 +154,7 @@ fn reading_line(alloc: Global, verb: Verb, set: String) -> Result<Asked, AllocEr
     ensures verb { IfOk result (λ asked. asked.verb ≡ verb) }
     ensures set { IfOk result (AsksToRead (string_bytes set)) }
     ensures flags { IfOk result (λ asked. (asked.keys ≡ false) × (asked.strict ≡ false)
-        × (asked.quiet ≡ false) × (asked.verbose ≡ false) × (asked.long ≡ false)) }
+        × (asked.quiet ≡ false) × (asked.verbose ≡ false) × (asked.long ≡ false) × (asked.json ≡ false)) }
 {
     let mut paths = Vec::new(alloc);
     paths.push(set)?;
@@ -170,6 +173,7 @@ fn reading_line(alloc: Global, verb: Verb, set: String) -> Result<Asked, AllocEr
         long: false,
         link: false,
         keep_going: false,
+        json: false,
         files0_from: None,
     })
 }
@@ -203,12 +207,14 @@ fn line_of(alloc: Global, request: Request) -> Result<Asked, AllocError>
             asked.strict = check.strict;
             asked.quiet = check.quiet;
             asked.verbose = check.verbose;
+            asked.json = check.json;
             Ok(asked)
         }
         Request::List(list) => {
             let mut asked = reading_line(alloc, Verb::List, list.set)?;
             asked.long = list.long;
             asked.verbose = list.verbose;
+            asked.json = list.json;
             Ok(asked)
         }
     }

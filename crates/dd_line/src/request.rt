@@ -75,6 +75,8 @@ pub struct NewSet {
     pub quiet: bool,
     /// `--verbose`: hints are shown where there is no terminal, too.
     pub verbose: bool,
+    /// `--json`: each line is printed as a JSON object.
+    pub json: bool,
 }
 
 /// Lists what a new file-set is made of: one path at least, or a file of names.
@@ -130,6 +132,8 @@ pub struct CheckRequest {
     pub quiet: bool,
     /// `--verbose`: hints are shown where there is no terminal, too.
     pub verbose: bool,
+    /// `--json`: each line is printed as a JSON object.
+    pub json: bool,
 }
 
 /// Asks for a list of the records of a directory.
@@ -141,4 +145,6 @@ pub struct ListRequest {
     pub long: bool,
     /// `--verbose`: hints are shown where there is no terminal, too.
     pub verbose: bool,
+    /// `--json`: each line is printed as a JSON object.
+    pub json: bool,
 }
