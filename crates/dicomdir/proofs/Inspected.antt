@@ -7,41 +7,43 @@ use Rattle.dd_dir.specs.Trees.{Walk}
 use Rattle.dd_elem.specs.declared.device.Read.{Ghosts as ReadOf}
 use Rattle.dd_elem.specs.declared.device.Write.{Ghosts as WriteOf}
 use Rattle.dd_files.specs.Files.{Held}
+use Rattle.dd_json.specs.declared.value.Style.{Style}
 use Rattle.dd_report.specs.Checking.{TellsSome, TellsWalk}
-use Rattle.dd_report.specs.Text.{FailsInText, TakesText}
+use Rattle.dd_lines.specs.Text.{FailsInText, TakesText}
 use Rattle.dd_report.specs.declared.checking.Comparison.{Comparison}
-use Rattle.dicomdir.specs.Inspecting.{ChecksSet, IsBroken, SaysWalk, TellsBroken, broken_line}
+use Rattle.dicomdir.specs.Inspecting.{ChecksSet, IsBroken, IsBrokenLine, SaysWalk, TellsBroken}
 use Rattle.dicomdir.specs.Merges.{HasDirectory}
 
 module _ {R W : Type 0} (readers : ReadOf R) (writer : WriteOf W) (folder bytes : List ℕ) (files : Option Held)
-    (comparison : Comparison) (before after : ℕ) (old new : W) (directory : HasDirectory folder bytes files) where
+    (comparison : Comparison) (style : Style) (before after : ℕ) (old new : W)
+    (directory : HasDirectory folder bytes files) where
   says : (walk : Walk) → IsWalk bytes walk → SaysWalk folder files walk
   says walk is = record { bytes = bytes; directory = directory; says = is }
 
   -- nothing was found, or something
   abbrev Told : Walk → Bool → Type 0
-  Told walk found = (text : List ℕ) × TellsWalk readers files folder comparison walk found before after text
+  Told walk found = (text : List ℕ) × TellsWalk readers files folder comparison style walk found before after text
       × TakesText writer old new text
 
   pub nothing_found : (walk : Walk) (found : Bool) → IsWalk bytes walk → Told walk found → found ≡ false
-      → ChecksSet readers folder files comparison writer 0 before after old new
+      → ChecksSet readers folder files comparison style writer 0 before after old new
   nothing_found walk found is (text, tells, took) none =
-      let right = subst (λ (found : Bool). TellsWalk readers files folder comparison walk found before after text) none
-      tells in
+      let right = subst (λ (found : Bool). TellsWalk readers files folder comparison style walk found before after text)
+      none tells in
       (text, inl (inl (refl, record { walk = walk; says = says walk is; tells = right }), took))
 
   pub something_found : (walk : Walk) (found : Bool) → IsWalk bytes walk → Told walk found → found ≡ true
-      → ChecksSet readers folder files comparison writer 3 before after old new
+      → ChecksSet readers folder files comparison style writer 3 before after old new
   something_found walk found is (text, tells, took) some =
-      let amiss = subst (λ (found : Bool). TellsWalk readers files folder comparison walk found before after text) some
-      tells in
+      let amiss = subst (λ (found : Bool). TellsWalk readers files folder comparison style walk found before after text)
+      some tells in
       (text, inl (inr (refl, inl (record { walk = walk; says = says walk is; tells = amiss })), took))
 
   -- the output failed
   pub check_unsent : (walk : Walk) → IsWalk bytes walk
-      → (text : List ℕ) × TellsSome readers files folder comparison walk before after text
+      → (text : List ℕ) × TellsSome readers files folder comparison style walk before after text
       × FailsInText writer old new text
-      → ChecksSet readers folder files comparison writer 1 before after old new
+      → ChecksSet readers folder files comparison style writer 1 before after old new
   check_unsent walk is (text, tells, failed) =
       (text, inr (refl, inl (record { walk = walk; says = says walk is; tells = tells }), failed))
 
@@ -51,19 +53,19 @@ module _ {R W : Type 0} (readers : ReadOf R) (writer : WriteOf W) (folder bytes 
   broken fault (inl memory) none = absurd (none memory)
   broken fault (inr refuses) none = record { bytes = bytes; directory = directory; refuses = refuses }
 
-  tells_broken : (fault : DirFault) → SaysMemory fault ⊎ Refuses bytes fault → ¬ SaysMemory fault → (words : List ℕ)
-      → TellsBroken folder files (broken_line words)
-  tells_broken fault refused none words =
-      record { fault = fault; broken = broken fault refused none; words = words; line = refl }
+  tells_broken : (fault : DirFault) → SaysMemory fault ⊎ Refuses bytes fault → ¬ SaysMemory fault → (text : List ℕ)
+      → IsBrokenLine style text → TellsBroken folder files style text
+  tells_broken fault refused none text line =
+      record { fault = fault; broken = broken fault refused none; line = line }
 
   pub check_broken : (fault : DirFault) (status : ℕ) → SaysMemory fault ⊎ Refuses bytes fault → ¬ SaysMemory fault
       → (status ≡ 1) ⊎ (status ≡ 3)
-      → (status ≡ 3 → (words : List ℕ) × TakesText writer old new (broken_line words))
-      → (status ≡ 1 → (words : List ℕ) × FailsInText writer old new (broken_line words))
-      → ChecksSet readers folder files comparison writer status before after old new
+      → (status ≡ 3 → (text : List ℕ) × IsBrokenLine style text × TakesText writer old new text)
+      → (status ≡ 1 → (text : List ℕ) × IsBrokenLine style text × FailsInText writer old new text)
+      → ChecksSet readers folder files comparison style writer status before after old new
   check_broken fault status refused none (inl one) printed failed =
-      let line = failed one in
-      (broken_line line.0, inr (one, inr (tells_broken fault refused none line.0), line.1))
+      let (text, line, fails) = failed one in
+      (text, inr (one, inr (tells_broken fault refused none text line), fails))
   check_broken fault status refused none (inr three) printed failed =
-      let line = printed three in
-      (broken_line line.0, inl (inr (three, inr (tells_broken fault refused none line.0)), line.1))
+      let (text, line, took) = printed three in
+      (text, inl (inr (three, inr (tells_broken fault refused none text line)), took))

@@ -15,6 +15,7 @@ mod LinesMade
 mod LinesRefused
 mod Masking
 mod NameParts
+mod NoteObjects
 mod PastFailures
 mod Publishing
 mod SaidLines

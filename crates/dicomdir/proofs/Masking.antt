@@ -5,7 +5,7 @@ use Rattle.std.proofs.lemmas.Str.{chars-encodes, scalars-chars}
 use Rattle.std.specs.Char.{IsScalar, is_control}
 use Rattle.std.specs.List.{list_any}
 use Rattle.std.specs.Str.{IsUtf8, all_scalars, chars}
-use Rattle.dd_report.specs.Text.{masked, masked_char}
+use Rattle.dd_lines.specs.Text.{masked, masked_char}
 use Rattle.dicomdir.specs.MaskedWords.{has_control}
 
 char_shown : (c : ℕ) → IsScalar c → IsScalar (masked_char c)

@@ -3,11 +3,12 @@ use Rattle.std.proofs.Common.{◌≡◌, ◌∙◌, ℕ, List, [], ◌∷◌, �
 use Rattle.std.proofs.Common.{codes, length, refl, subst, sym, take}
 use Rattle.std.proofs.KnownBytes.{Appends-nil, Appends-trans}
 use Rattle.std.proofs.lemmas.List.{take_more}
-use Rattle.std.specs.Prelude.{OnOk, Result, Ok, Err}
+use Rattle.std.specs.Prelude.{IsOk, OnOk, Result, Ok, Err}
 use Rattle.dd_engine.specs.declared.noted_index.NotedIndex.{NotedIndex}
 use Rattle.dd_elem.specs.declared.device.Write.{Ghosts as WriteOf}
-use Rattle.dd_report.specs.Text.{TakesText, masked}
-use Rattle.dicomdir.specs.Said.{AreLines, IsLeftOut, IsNames, IsSkip, SaysNotes, left_out_line, path_at, said_line}
+use Rattle.dd_lines.specs.Text.{TakesText, masked}
+use Rattle.dd_json.specs.declared.value.Style.{Style}
+use Rattle.dicomdir.specs.Said.{AreLines, IsLeftOut, IsNames, IsSkip, SaysNotes, left_out_words, path_at, said_line}
 
 -- a line after all others
 lines_push : {T : Type 0} (IsLine : T → List ℕ → Type 0) (xs : List T) (x : T) (text line : List ℕ)
@@ -50,7 +51,7 @@ joined_three a b c rest = sym (append_assoc a (b ++ c) rest ∙ ap (λ (xs : Lis
 pub left_out_parts : (folder joint inside kept_folder kept_joint kept_inside uid : List ℕ)
     → said_line (codes "NOTE " ∷ folder ∷ joint ∷ inside ∷ codes ": left out for " ∷ kept_folder ∷ kept_joint ∷ kept_inside
     ∷ codes ": same SOP Instance UID " ∷ uid ∷ codes ", other bytes" ∷ [])
-    ≡ left_out_line (folder ++ (joint ++ inside)) (kept_folder ++ (kept_joint ++ kept_inside)) uid
+    ≡ left_out_words (folder ++ (joint ++ inside)) (kept_folder ++ (kept_joint ++ kept_inside)) uid
 left_out_parts folder joint inside kept_folder kept_joint kept_inside uid =
     ap (λ (text : List ℕ). masked (codes "NOTE " ++ text) ++ 10 ∷ [])
     (joined_three folder joint inside _
@@ -63,6 +64,10 @@ pub on_ok_by : {T E : Type 0} {P Q : Type 0} (r : Result T E) → (P → Q) → 
 on_ok_by (Ok x) by holds = by holds
 on_ok_by (Err e) by holds = tt
 
+pub on_ok_gives : {T E P : Type 0} (r : Result T E) → IsOk r → OnOk r P → P
+on_ok_gives (Ok x) ok holds = holds
+on_ok_gives (Err e) ok holds = absurd cc
+
 -- ---- one text after another
 
 takes_both : {W : Type 0} (writer : WriteOf W) (a b c : W) (one two : List ℕ) → TakesText writer a b one
@@ -72,13 +77,13 @@ takes_both writer a b c one two first next = (
   Appends-trans (writer.contents a) (writer.contents b) (writer.contents c) one two first.1 next.1,
 )
 
-pub notes_said : {W : Type 0} (writer : WriteOf W) (sources : List (List ℕ)) (noted : NotedIndex) (a b c d : W)
-    → SaidTo writer (IsSkip sources) noted.indexed.skipped.items a b
-    → SaidTo writer (IsLeftOut (λ at shown. shown ≡ path_at sources at)) noted.notes.left_out.items b c
-    → SaidTo writer IsNames noted.notes.names.items c d
-    → (text : List ℕ) × SaysNotes sources noted text × TakesText writer a d text
-notes_said writer sources noted a b c d (skips, skipped, one) (left, left_out, two) (names, named, three) =
-    let says : SaysNotes sources noted (skips ++ (left ++ names)) = record {
+pub notes_said : {W : Type 0} (writer : WriteOf W) (style : Style) (sources : List (List ℕ)) (noted : NotedIndex)
+    (a b c d : W) → SaidTo writer (IsSkip style sources) noted.indexed.skipped.items a b
+    → SaidTo writer (IsLeftOut style (λ at shown. shown ≡ path_at sources at)) noted.notes.left_out.items b c
+    → SaidTo writer (IsNames style) noted.notes.names.items c d
+    → (text : List ℕ) × SaysNotes style sources noted text × TakesText writer a d text
+notes_said writer style sources noted a b c d (skips, skipped, one) (left, left_out, two) (names, named, three) =
+    let says : SaysNotes style sources noted (skips ++ (left ++ names)) = record {
       skips = skips;
       skipped = skipped;
       left = left;

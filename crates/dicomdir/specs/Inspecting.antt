@@ -4,20 +4,24 @@ use Rattle.std.specs.Prelude.{string_bytes}
 use Rattle.std.specs.List.{concat}
 use Rattle.clap.specs.Takes.{is_given}
 use Rattle.clap.specs.Words.{Row, Text}
+use Rattle.serde_json.specs.Data.{Data, string}
 use Rattle.dd_dir.specs.declared.fault.DirFault.{DirFault}
 use Rattle.dd_dir.specs.Reading.{IsWalk, Refuses}
 use Rattle.dd_dir.specs.Trees.{Walk}
 use Rattle.dd_elem.specs.declared.device.Read.{Ghosts as ReadOf}
 use Rattle.dd_elem.specs.declared.device.Write.{Ghosts as WriteOf}
 use Rattle.dd_files.specs.Files.{Held}
-use Rattle.dd_line.specs.Line.{given_paths, keys_name, long_name, strict_name, verb_name}
+use Rattle.dd_json.specs.declared.value.Style.{Style}
+use Rattle.dd_json.specs.declared.value.Style.TheVariants.{Json, Text as Plain}
+use Rattle.dd_json.specs.Values.{json_line, object_of}
+use Rattle.dd_line.specs.Line.{given_paths, json_name, keys_name, long_name, strict_name, verb_name}
 use Rattle.dd_line.specs.declared.line.Verb.TheVariants.{List as ListVerb}
 use Rattle.dd_line.specs.declared.request.Request.{Request}
 use Rattle.dd_line.specs.declared.request.Request.TheVariants.{Index as ToIndex, Merge as ToMerge, Withdraw as ToWithdraw}
 use Rattle.dd_line.specs.declared.request.Request.TheVariants.{Check as ToCheck, List as ToList}
 use Rattle.dd_report.specs.Checking.{TellsSome, TellsWalk}
 use Rattle.dd_report.specs.Listing.{listing}
-use Rattle.dd_report.specs.Text.{FailsInText, TakesText, masked}
+use Rattle.dd_lines.specs.Text.{FailsInText, TakesText, masked}
 use Rattle.dd_report.specs.declared.checking.Comparison.{Comparison}
 use Rattle.dd_report.specs.declared.known.Form.{Form}
 use Rattle.dd_report.specs.declared.known.Form.TheVariants.{Long, Short}
@@ -39,55 +43,65 @@ pub record IsBroken (folder : List ℕ) (files : Option Held) (fault : DirFault)
 
 -- ---- `list`
 
+-- the style of the lines, which are JSON objects where that is asked for
+abbrev pub style_by : Bool → Style
+style_by true = Json
+style_by false = Plain
+
 -- the form of a listing, which is long where that is asked for
 abbrev pub form_by : Bool → Form
 form_by true = Long
 form_by false = Short
 
 -- With 0 the listing of what the directory says was printed. Any other status is 1, and the output failed in the listing.
-pub record ListsSet {W : Type 0} (writer : WriteOf W) (form : Form) (folder : List ℕ) (files : Option Held)
-    (status : ℕ) (old new : W) : Type 0 where
+pub record ListsSet {W : Type 0} (writer : WriteOf W) (style : Style) (form : Form) (folder : List ℕ)
+    (files : Option Held) (status : ℕ) (old new : W) : Type 0 where
   pub walk : Walk
   pub says : SaysWalk folder files walk
-  pub printed : ((status ≡ 0) × TakesText writer old new (listing form walk))
-      ⊎ ((status ≡ 1) × FailsInText writer old new (listing form walk))
+  pub printed : ((status ≡ 0) × TakesText writer old new (listing style form walk))
+      ⊎ ((status ≡ 1) × FailsInText writer old new (listing style form walk))
 
 -- ---- `check`
 
--- the line of a directory that can't be read, with the words of the fault
-abbrev pub broken_line : List ℕ → List ℕ
-broken_line words = masked (concat (codes "BROKEN " ∷ words ∷ [])) ++ 10 ∷ []
+-- the object of a directory that can't be read, with its fault
+abbrev pub broken_json : Data → Data
+broken_json fault = object_of ((codes "line", string (codes "BROKEN")) ∷ (codes "fault", fault) ∷ [])
+
+-- the line of such a directory: the words of some fault, or an object with it
+abbrev pub IsBrokenLine : Style → List ℕ → Type 0
+IsBrokenLine Plain text = (words : List ℕ) × (text ≡ masked (concat (codes "BROKEN " ∷ words ∷ [])) ++ 10 ∷ [])
+IsBrokenLine Json text = (fault : Data) × (text ≡ json_line (broken_json fault))
 
 -- the directory can't be read, and the line says so
-pub record TellsBroken (folder : List ℕ) (files : Option Held) (text : List ℕ) : Type 0 where
+pub record TellsBroken (folder : List ℕ) (files : Option Held) (style : Style) (text : List ℕ) : Type 0 where
   pub fault : DirFault
   pub broken : IsBroken folder files fault
-  pub words : List ℕ
-  pub line : text ≡ broken_line words
+  pub line : IsBrokenLine style text
 
--- What is said of a file-set whose files are read by these readers and compared so, while their count of refusals goes
--- from the first number to the second.
-module _ {R : Type 0} (readers : ReadOf R) (folder : List ℕ) (files : Option Held) (comparison : Comparison) where
+-- What is said, in this style, of a file-set whose files are read by these readers and compared so, while their count
+-- of refusals goes from the first number to the second.
+module _ {R : Type 0} (readers : ReadOf R) (folder : List ℕ) (files : Option Held) (comparison : Comparison)
+    (style : Style) where
   -- of each record that the directory has, what is found of its file, and whether something is found at all
   pub record TellsSet (found : Bool) (old new : ℕ) (text : List ℕ) : Type 0 where
     pub walk : Walk
     pub says : SaysWalk folder files walk
-    pub tells : TellsWalk readers files folder comparison walk found old new text
+    pub tells : TellsWalk readers files folder comparison style walk found old new text
 
   -- the same, up to some record
   pub record BeginsToTell (old new : ℕ) (text : List ℕ) : Type 0 where
     pub walk : Walk
     pub says : SaysWalk folder files walk
-    pub tells : TellsSome readers files folder comparison walk old new text
+    pub tells : TellsSome readers files folder comparison style walk old new text
 
   -- 0 is for a file-set of which nothing is found, 3 for one of which something is found or whose directory can't be read
   abbrev pub Tells : ℕ → ℕ → ℕ → List ℕ → Type 0
   Tells status old new text = ((status ≡ 0) × TellsSet false old new text)
-      ⊎ ((status ≡ 3) × (TellsSet true old new text ⊎ TellsBroken folder files text))
+      ⊎ ((status ≡ 3) × (TellsSet true old new text ⊎ TellsBroken folder files style text))
 
   -- a text of which some was printed before the output failed
   abbrev pub TellsFront : ℕ → ℕ → List ℕ → Type 0
-  TellsFront old new text = BeginsToTell old new text ⊎ TellsBroken folder files text
+  TellsFront old new text = BeginsToTell old new text ⊎ TellsBroken folder files style text
 
   -- With 0 and 3 all of that was printed. Any other status is 1, and the output failed in it.
   abbrev pub ChecksSet : {W : Type 0} → WriteOf W → ℕ → ℕ → ℕ → W → W → Type 0
@@ -112,6 +126,11 @@ abbrev pub form_in : Option (Text × List Row) → Form
 form_in None = Short
 form_in (Some (command, given)) = form_by (is_given long_name given)
 
+-- the style of the lines that they ask for
+abbrev pub style_in : Option (Text × List Row) → Style
+style_in None = Plain
+style_in (Some (command, given)) = style_by (is_given json_name given)
+
 -- what they ask to compare
 abbrev pub comparison_by : Bool → Bool → Comparison
 comparison_by keys strict = record { keys = keys; strict = strict }
@@ -126,6 +145,7 @@ PrintsRequested readers writer (ToIndex x) files status old new from to = Unit {
 PrintsRequested readers writer (ToMerge x) files status old new from to = Unit {0}
 PrintsRequested readers writer (ToWithdraw x) files status old new from to = Unit {0}
 PrintsRequested readers writer (ToCheck x) files status old new from to =
-    ChecksSet readers (string_bytes x.set) files (comparison_by x.keys x.strict) writer status old new from to
+    ChecksSet readers (string_bytes x.set) files (comparison_by x.keys x.strict) (style_by x.json) writer status old new
+    from to
 PrintsRequested readers writer (ToList x) files status old new from to =
-    ListsSet writer (form_by x.long) (string_bytes x.set) files status from to
+    ListsSet writer (style_by x.json) (form_by x.long) (string_bytes x.set) files status from to

@@ -41,5 +41,5 @@ pub use Rattle.dd_line.specs.Line
 pub use Rattle.dd_report.specs.Checking
 pub use Rattle.dd_report.specs.Finding
 pub use Rattle.dd_report.specs.Listing
-pub use Rattle.dd_report.specs.Telling
-pub use Rattle.dd_report.specs.Text
+pub use Rattle.dd_lines.specs.Telling
+pub use Rattle.dd_lines.specs.Text

@@ -1,15 +1,20 @@
--- The lines that `index`, `merge` and `withdraw` print before they make anything.
-use Rattle.std.specs.Prelude.{◌≡◌, ℕ, List, [], ◌∷◌, ◌++◌, codes, slice_index_or}
+-- The lines that `index`, `merge` and `withdraw` print before they make anything, in words or as JSON objects (RFC
+-- 8259).
+use Rattle.std.specs.Prelude.{◌≡◌, ℕ, List, [], ◌∷◌, ◌++◌, codes, length, slice_index_or}
 use Rattle.std.specs.Fmt.InlineText.{inline_text}
 use Rattle.std.specs.List.{concat}
 use Rattle.dd_engine.specs.declared.merge.Pick.{Pick}
 use Rattle.dd_engine.specs.declared.noted_index.NotedIndex.{NotedIndex}
 use Rattle.dd_engine.specs.declared.notes.LeftOut.{LeftOut}
 use Rattle.dd_engine.specs.PatientNames.{NamedPatient}
+use Rattle.dd_json.specs.declared.value.Style.{Style}
+use Rattle.dd_json.specs.declared.value.Style.TheVariants.{Text, Json}
+use Rattle.dd_json.specs.Values.{count, json_line, object_of, printed}
 use Rattle.dd_keys.specs.declared.fault.KeyFault.{KeyFault}
-use Rattle.dd_report.specs.Telling.{shown_line}
-use Rattle.dd_report.specs.Text.{masked}
+use Rattle.dd_lines.specs.Telling.{shown_line}
+use Rattle.dd_lines.specs.Text.{masked}
 use Rattle.dicomdir.specs.declared.shown_path.ShownPath.{ShownPath}
+use Rattle.serde_json.specs.Data.{Data, string}
 
 -- a line of these parts, one after the other, as it prints: `?` for each control character
 abbrev pub said_line : List (List ℕ) → List ℕ
@@ -36,42 +41,78 @@ pub record ShowsMember (folders : List (List ℕ)) (pick : Pick) (shown : List �
   pub inside : List ℕ
   pub is : shown ≡ path_at folders pick.set ++ inside
 
--- ---- what a line says
+-- ---- the line of a source that is skipped
 
--- the line of a source that is skipped has its path and the words of its fault
-pub record IsSkip (sources : List (List ℕ)) (skip : ℕ × KeyFault) (line : List ℕ) : Type 0 where
+abbrev pub skip_json : List ℕ → Data → Data
+skip_json path fault = object_of (
+    (codes "line", string (codes "SKIP")) ∷ (codes "path", string path) ∷ (codes "fault", fault) ∷ [])
+
+-- it has its path, and the words of its fault or an object of them
+abbrev pub skip_line : Style → List ℕ → List ℕ → Data → List ℕ
+skip_line Text path words fault = said_line (codes "SKIP " ∷ path ∷ codes ": " ∷ words ∷ [])
+skip_line Json path words fault = json_line (skip_json path fault)
+
+pub record IsSkip (style : Style) (sources : List (List ℕ)) (skip : ℕ × KeyFault) (line : List ℕ) : Type 0 where
   pub words : List ℕ
-  pub is : line ≡ said_line (codes "SKIP " ∷ path_at sources skip.0 ∷ codes ": " ∷ words ∷ [])
+  pub fault : Data
+  pub is : line ≡ skip_line style (path_at sources skip.0) words fault
 
--- the line of a file that is left out has its path, the path of the file that is kept, and the SOP Instance UID of both
-abbrev pub left_out_line : List ℕ → List ℕ → List ℕ → List ℕ
-left_out_line file kept uid = said_line (codes "NOTE " ∷ file ∷ codes ": left out for " ∷ kept
+-- ---- the line of a file that is left out
+
+-- an object of this kind
+abbrev pub note_json : List ℕ → List (List ℕ × Data) → Data
+note_json kind members = object_of ((codes "line", string (codes "NOTE")) ∷ (codes "kind", string kind) ∷ members)
+
+-- it has its path, the path of the file that is kept, and the SOP Instance UID of both
+abbrev pub left_out_words : List ℕ → List ℕ → List ℕ → List ℕ
+left_out_words file kept uid = said_line (codes "NOTE " ∷ file ∷ codes ": left out for " ∷ kept
     ∷ codes ": same SOP Instance UID " ∷ uid ∷ codes ", other bytes" ∷ [])
 
-pub record IsLeftOut {T : Type 0} (Shows : T → List ℕ → Type 0) (note : LeftOut T) (line : List ℕ) : Type 0 where
+abbrev pub left_out_json : List ℕ → List ℕ → List ℕ → Data
+left_out_json file kept uid = note_json (codes "left_out") (
+    (codes "path", string file) ∷ (codes "kept", string kept) ∷ (codes "uid", string uid) ∷ [])
+
+abbrev pub left_out_line : Style → List ℕ → List ℕ → List ℕ → List ℕ
+left_out_line Text file kept uid = left_out_words file kept uid
+left_out_line Json file kept uid = json_line (left_out_json file kept uid)
+
+pub record IsLeftOut {T : Type 0} (style : Style) (Shows : T → List ℕ → Type 0) (note : LeftOut T) (line : List ℕ)
+    : Type 0 where
   pub file : List ℕ
   pub shown : Shows note.file file
   pub kept : List ℕ
   pub shown_kept : Shows note.kept kept
-  pub is : line ≡ left_out_line file kept note.instance
+  pub is : line ≡ left_out_line style file kept note.instance
 
--- the line of a Patient ID with more than one name has the ID, and then other words
-pub record IsNamesOf (id line : List ℕ) : Type 0 where
+-- ---- the line of a Patient ID with more than one name
+
+-- in words it has the ID, and then other words
+abbrev pub names_words : List ℕ → List (List ℕ) → List ℕ
+names_words id more = shown_line (codes "NOTE -: Patient ID " ∷ id ∷ more)
+
+abbrev pub names_json : List ℕ → ℕ → Data → Data
+names_json id number names = note_json (codes "names") (
+    (codes "patient_id", printed id) ∷ (codes "count", count number) ∷ (codes "names", names) ∷ [])
+
+-- an object has the ID, the number of names, and some of them
+abbrev pub names_line : Style → List ℕ → ℕ → List (List ℕ) → Data → List ℕ
+names_line Text id number more names = names_words id more
+names_line Json id number more names = json_line (names_json id number names)
+
+pub record IsNames (style : Style) (patient : NamedPatient) (line : List ℕ) : Type 0 where
   pub more : List (List ℕ)
-  pub is : line ≡ shown_line (codes "NOTE -: Patient ID " ∷ id ∷ more)
-
-abbrev pub IsNames : NamedPatient → List ℕ → Type 0
-IsNames patient line = IsNamesOf patient.id line
+  pub names : Data
+  pub is : line ≡ names_line style patient.id (length patient.names) more names
 
 -- ---- what `index` says
 
 -- a line for each source that is skipped, then one for each source that is left out, and one for each Patient ID with
 -- more than one name
-pub record SaysNotes (sources : List (List ℕ)) (noted : NotedIndex) (text : List ℕ) : Type 0 where
+pub record SaysNotes (style : Style) (sources : List (List ℕ)) (noted : NotedIndex) (text : List ℕ) : Type 0 where
   pub skips : List ℕ
-  pub skipped : AreLines (IsSkip sources) noted.indexed.skipped.items skips
+  pub skipped : AreLines (IsSkip style sources) noted.indexed.skipped.items skips
   pub left : List ℕ
-  pub left_out : AreLines (IsLeftOut (λ at shown. shown ≡ path_at sources at)) noted.notes.left_out.items left
+  pub left_out : AreLines (IsLeftOut style (λ at shown. shown ≡ path_at sources at)) noted.notes.left_out.items left
   pub names : List ℕ
-  pub named : AreLines IsNames noted.notes.names.items names
+  pub named : AreLines (IsNames style) noted.notes.names.items names
   pub is : text ≡ skips ++ (left ++ names)

@@ -4,9 +4,9 @@ use crate::refusal::{Paths, ProgramFault, Refusal, Subject};
 use crate::shell_path::{ShellPath, ShellPathText};
 use dd_dir::DirFault;
 use dd_elem::Write;
-use dd_files::Hints;
+use dd_files::{Cause, Hints};
 use dd_layout::PlanFault;
-use dd_report::print_line;
+use dd_lines::print_line;
 
 /// The first step about a fault.
 #[derive(Clone, Copy)]
@@ -16,32 +16,62 @@ enum FirstStep {
     WithPath(&'static str, &'static str),
 }
 
-/// Prints the system's words where it refused the call, and what to do first. A failure of the writer changes nothing.
-pub(crate) fn print_hints<F: Hints, W: Write>(
-    refusal: &Refusal,
-    paths: Paths<'_>,
-    files: &F,
-    to: &mut W,
-) {
-    if is_of_system(&refusal.fault) {
-        print_cause(files, to);
-    }
-    let path = path_of(&refusal.subject, paths);
-    let _ = match first_step(refusal, path, files) {
-        FirstStep::Words(words) => print_line(&["  help: ", words], to),
-        FirstStep::WithPath(before, after) => {
-            let shown = ShellPathText::of(ShellPath(path));
-            print_line(&["  help: ", before, shown.as_str(), after], to)
-        }
-    };
+/// What a person is shown below a fault.
+#[derive(Drop)]
+pub(crate) struct ShownHints {
+    /// The system's words; empty where it has none for the fault.
+    pub(crate) cause: Cause,
+    /// What to do first: these words, the path, and the words after it.
+    before: &'static str,
+    pub(crate) path: ShellPathText,
+    after: &'static str,
 }
 
-fn print_cause<F: Hints, W: Write>(files: &F, to: &mut W) {
-    let cause = files.cause();
-    let words = cause.as_str();
-    if !words.is_empty() {
-        let _ = print_line(&["  cause: ", words], to);
+impl ShownHints {
+    pub(crate) fn before(&self) -> &str {
+        self.before
     }
+
+    pub(crate) fn after(&self) -> &str {
+        self.after
+    }
+}
+
+pub(crate) fn hints_of<F: Hints>(refusal: &Refusal, paths: Paths<'_>, files: &F) -> ShownHints {
+    let cause = cause_of(&refusal.fault, files);
+    let path = path_of(&refusal.subject, paths);
+    match first_step(refusal, path, files) {
+        FirstStep::Words(words) => ShownHints {
+            cause,
+            before: words,
+            path: ShellPathText::new(),
+            after: "",
+        },
+        FirstStep::WithPath(before, after) => ShownHints {
+            cause,
+            before,
+            path: ShellPathText::of(ShellPath(path)),
+            after,
+        },
+    }
+}
+
+fn cause_of<F: Hints>(fault: &ProgramFault, files: &F) -> Cause {
+    if is_of_system(fault) {
+        files.cause()
+    } else {
+        Cause::new()
+    }
+}
+
+/// Prints the system's words, if there are any, and what to do first. A failure of the writer changes nothing.
+pub(crate) fn print_hints<W: Write>(hints: &ShownHints, to: &mut W) {
+    let cause = hints.cause.as_str();
+    if !cause.is_empty() {
+        let _ = print_line(&["  cause: ", cause], to);
+    }
+    let (before, path, after) = (hints.before(), hints.path.as_str(), hints.after());
+    let _ = print_line(&["  help: ", before, path, after], to);
 }
 
 /// Says whether the fault is one that the system may have words for.

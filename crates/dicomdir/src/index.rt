@@ -3,7 +3,7 @@ ghost use Rattle.dd_elem.specs.Device.{HasFailed};
 ghost use Rattle.dd_engine.specs.Indexed.{IsNamed, IsWithin};
 ghost use Rattle.dd_engine.specs.Noting.{AreBelow, IsBelow};
 ghost use Rattle.dd_line.specs.Line.{words_of};
-ghost use Rattle.dd_report.specs.Text.{TakesText};
+ghost use Rattle.dd_lines.specs.Text.{TakesText};
 ghost use Rattle.dicomdir.specs.Indexes.{DoneIndexes, Indexes, IsIndexStatus, has_failed, status_past};
 ghost use Rattle.dicomdir.specs.ListedNames.{AreOfSources, HavePaths};
 ghost use Rattle.dicomdir.specs.Refusal.{IsOfWork};
@@ -25,6 +25,7 @@ use dd_engine::{
     EngineFault, NotedFault, NotedIndex, PastFailures, index_past_failures, index_with_notes,
 };
 use dd_files::{Files, Hints, Progress, SOURCE_LIMIT, Step};
+use dd_json::Style;
 use dd_keys::KeyFault;
 use dd_layout::Limits;
 use std::alloc::Global;
@@ -51,7 +52,7 @@ pub(crate) fn run_index<F: Files + Progress + Hints, O: Write>(
     let mut sum = Sum::new();
     let done = index_sources(making, sources, &mut sum, files, out);
     if making.explains && matches!(done, Ok(0 | 3)) {
-        show_sum(&sum, files);
+        show_sum(&sum, making.style, files);
     }
     done
 }
@@ -80,19 +81,19 @@ fn index_sources<F: Files + Progress + Hints, O: Write>(
     files.hide_line();
     let past = match answer {
         Ok(past) => past,
-        Err(fault) => return Err(refuse(sources, &fault, out)),
+        Err(fault) => return Err(refuse(sources, &fault, making.style, out)),
     };
-    if tell_noted(&past, sources, making.bad_names, out).is_err() {
+    if tell_noted(&past, sources, making.bad_names, making.style, out).is_err() {
         return Ok(1);
     }
     *sum = Sum::of(&past.noted, sources.len());
     let NotedIndex { indexed, notes } = &past.noted;
     let is_noted = !indexed.skipped.is_empty() || has_notes(notes);
     refuse_noted(making.strict, is_noted)?;
-    show_dates(making.explains, &indexed.plan, files);
+    show_dates(making.explains_in_words(), &indexed.plan, files);
     if making.dry_run {
         let images = bytes_of(&indexed.picks, &counts);
-        let status = tell_plan_of_images(&indexed.plan, images, out);
+        let status = tell_plan_of_images(&indexed.plan, images, making.style, out);
         return Ok(status_past(status, &indexed.skipped));
     }
     let set = FileSet {
@@ -101,7 +102,7 @@ fn index_sources<F: Files + Progress + Hints, O: Write>(
         origins: &SourceFiles { paths: sources },
         picks: &indexed.picks,
     };
-    let status = make_file_set(making.alloc, &set, files, out)?;
+    let status = make_file_set(making.alloc, &set, making.style, files, out)?;
     Ok(status_past(status, &indexed.skipped))
 }
 
@@ -128,12 +129,13 @@ fn tell_noted<O: Write>(
     past: &PastFailures,
     sources: &[String],
     bad_names: &[usize],
+    style: Style,
     out: &mut O,
 ) -> fmt::Result
     requires within { IsWithin (length sources.now) past.now.noted.indexed }
     requires below { AreBelow (λ at. at) (length sources.now) past.now.noted.notes.left_out.items }
     ensures told { OnOk result ((text : List ℕ)
-        × SaysNotes (words_of sources.now) past.now.noted text
+        × SaysNotes style (words_of sources.now) past.now.noted text
         × TakesText O.Write out.old out.new text) }
     ensures worked { IsOk result → O.failures out.new ≡ O.failures out.old }
     ensures failed { IsErr result → HasFailed (O.failures out.old) (O.failures out.new) }
@@ -143,9 +145,9 @@ fn tell_noted<O: Write>(
         absent: &past.absent,
         bad_names,
     };
-    tell_skipped(&indexed.skipped, unread, sources, out)?;
-    tell_left_out(&notes.left_out, sources, out)?;
-    tell_names(&notes.names, out)
+    tell_skipped(&indexed.skipped, unread, sources, style, out)?;
+    tell_left_out(&notes.left_out, sources, style, out)?;
+    tell_names(&notes.names, style, out)
 }
 
 fn bytes_of(picks: &[usize], counts: &[SourceCounts]) -> u64 {
@@ -204,6 +206,7 @@ fn counts_of(alloc: Global, sources: usize) -> Result<Vec<SourceCounts>, Memory>
 fn refuse<O: Write>(
     sources: &[String],
     noted: &NotedFault<EngineFault, usize>,
+    style: Style,
     out: &mut O,
 ) -> Refusal
     requires named { IsNamed (length sources.now) noted.now.fault }
@@ -215,7 +218,7 @@ fn refuse<O: Write>(
         EngineFault::Absent(at) => Refusal::of(Subject::Source(at), ProgramFault::Absent),
         EngineFault::Unread(at) => Refusal::of(Subject::Source(at), ProgramFault::Unread),
         EngineFault::Plan(fault) => {
-            tell_conflict(&fault, &noted.conflict, sources, out);
+            tell_conflict(&fault, &noted.conflict, sources, style, out);
             Refusal::general(ProgramFault::Plan(fault))
         }
     }

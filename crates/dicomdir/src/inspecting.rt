@@ -1,56 +1,86 @@
 //! The commands that read one file-set.
-ghost use Rattle.std.specs.Prelude.{◌≡◌, ◌<◌, ◌≤◌, ◌⊎◌, ℕ, List, IfErr, IfOk};
-ghost use Rattle.dd_report.specs.Text.{FailsInText, TakesText};
-ghost use Rattle.dicomdir.specs.Inspecting.{ChecksSet, ListsSet, broken_line, comparison_by, form_by};
+ghost use Rattle.std.specs.Prelude.{◌≡◌, ◌<◌, ◌≤◌, ◌⊎◌, ℕ, List, IfErr, IfOk, OnErr, OnOk, string_bytes};
+ghost use Rattle.dd_lines.specs.Text.{FailsInText, TakesText};
+ghost use Rattle.dicomdir.specs.Inspecting.{ChecksSet, IsBrokenLine, ListsSet, comparison_by, form_by};
+ghost use Rattle.dicomdir.specs.Inspecting.{style_by};
 ghost use Rattle.dicomdir.specs.Refusal.{IsOfWork};
 
+use crate::fault_json::print_broken_json;
 use crate::refusal::{Refusal, Words};
 use crate::set_directory::{directory_bytes, refusal_of};
 use dd_dir::{DirFault, read_directory};
 use dd_elem::Write;
 use dd_files::{Files, Progress};
+use dd_json::Style;
 use dd_line::{CheckRequest, ListRequest};
-use dd_report::{Check, CheckFault, Comparison, Form, check_records, list_records, print_line};
+use dd_lines::print_line;
+use dd_report::{Check, CheckFault, Comparison, Form, check_records, list_records};
 use std::alloc::Global;
+use std::fmt;
 
-pub(crate) fn comparison_of(check: &CheckRequest) -> Comparison
-    ensures { result ≡ comparison_by check.now.keys check.now.strict }
+/// What is listed, and how.
+#[derive(Clone, Copy)]
+pub(crate) struct Listing<'a> {
+    pub(crate) alloc: Global,
+    /// The folder of the file-set.
+    pub(crate) folder: &'a str,
+    pub(crate) form: Form,
+    pub(crate) style: Style,
+}
+
+pub(crate) fn check_of(alloc: Global, check: &CheckRequest) -> Check<'_>
+    ensures folder { result.folder.now ≡ string_bytes check.now.set }
+    ensures comparison { result.comparison ≡ comparison_by check.now.keys check.now.strict }
+    ensures style { result.style ≡ style_by check.now.json }
 {
-    Comparison {
-        keys: check.keys,
-        strict: check.strict,
+    Check {
+        alloc,
+        folder: check.set.as_str(),
+        comparison: Comparison {
+            keys: check.keys,
+            strict: check.strict,
+        },
+        style: style_for(check.json),
     }
 }
 
-pub(crate) fn form_of(list: &ListRequest) -> Form
-    ensures { result ≡ form_by list.now.long }
+pub(crate) fn listing_of(alloc: Global, list: &ListRequest) -> Listing<'_>
+    ensures folder { result.folder.now ≡ string_bytes list.now.set }
+    ensures form { result.form ≡ form_by list.now.long }
+    ensures style { result.style ≡ style_by list.now.json }
 {
-    if list.long { Form::Long } else { Form::Short }
+    Listing {
+        alloc,
+        folder: list.set.as_str(),
+        form: if list.long { Form::Long } else { Form::Short },
+        style: style_for(list.json),
+    }
+}
+
+/// Gives the style of lines that are JSON objects or not.
+pub(crate) fn style_for(json: bool) -> Style
+    ensures { result ≡ style_by json }
+{
+    if json { Style::Json } else { Style::Text }
 }
 
 pub(crate) fn run_check<F: Files + Progress, O: Write>(
-    alloc: Global,
-    folder: &str,
-    comparison: Comparison,
+    check: Check<'_>,
     files: &mut F,
     out: &mut O,
 ) -> Result<u8, Refusal>
     ensures refusal { (paths : ℕ) → 0 < paths → IfErr result (IsOfWork paths) }
     ensures status { IfOk result (λ status. (status ≤ 1) ⊎ (status ≡ 3)) }
-    ensures checks { IfOk result (λ status. ChecksSet F.In.Read folder.now (F.held files.old)
-        comparison O.Write status (F.refusals files.old) (F.refusals files.new) out.old out.new) }
+    ensures checks { IfOk result (λ status. ChecksSet F.In.Read check.entry.folder.now (F.held files.old)
+        check.entry.comparison check.entry.style O.Write status
+        (F.refusals files.old) (F.refusals files.new) out.old out.new) }
     ensures kept { F.held files.new ≡ F.held files.old }
 {
-    let bytes = directory_bytes(alloc, 0, folder, files)?;
-    let forest = match read_directory(alloc, &bytes) {
+    let bytes = directory_bytes(check.alloc, 0, check.folder, files)?;
+    let forest = match read_directory(check.alloc, &bytes) {
         Ok(forest) => forest,
         Err(fault) if fault.is_want_of_memory() => return Err(Refusal::memory()),
-        Err(fault) => return Ok(tell_broken(&fault, out)),
-    };
-    let check = Check {
-        alloc,
-        folder,
-        comparison,
+        Err(fault) => return Ok(tell_broken(&fault, check.style, out)),
     };
     match check_records(check, &forest, files, out) {
         Ok(false) => Ok(0),
@@ -61,39 +91,49 @@ pub(crate) fn run_check<F: Files + Progress, O: Write>(
 }
 
 /// Prints why a directory can't be read, as a finding, and gives the status.
-fn tell_broken<O: Write>(fault: &DirFault, out: &mut O) -> u8
+fn tell_broken<O: Write>(fault: &DirFault, style: Style, out: &mut O) -> u8
     ensures status { (result ≡ 1) ⊎ (result ≡ 3) }
-    ensures printed { result ≡ 3 → (words : List ℕ)
-        × TakesText O.Write out.old out.new (broken_line words) }
-    ensures failed { result ≡ 1 → (words : List ℕ)
-        × FailsInText O.Write out.old out.new (broken_line words) }
+    ensures printed { result ≡ 3 → (text : List ℕ)
+        × IsBrokenLine style text × TakesText O.Write out.old out.new text }
+    ensures failed { result ≡ 1 → (text : List ℕ)
+        × IsBrokenLine style text × FailsInText O.Write out.old out.new text }
 {
     let words = Words::of(fault);
-    match print_line(&["BROKEN ", words.as_str()], out) {
+    match print_broken(words.as_str(), style, out) {
         Ok(()) => 3,
         Err(_) => 1,
     }
 }
 
+fn print_broken<O: Write>(words: &str, style: Style, out: &mut O) -> fmt::Result
+    ensures printed { OnOk result ((text : List ℕ)
+        × IsBrokenLine style text × TakesText O.Write out.old out.new text) }
+    ensures failed { OnErr result ((text : List ℕ)
+        × IsBrokenLine style text × FailsInText O.Write out.old out.new text) }
+{
+    match style {
+        Style::Text => print_line(&["BROKEN ", words], out),
+        Style::Json => print_broken_json(words, out),
+    }
+}
+
 pub(crate) fn run_list<F: Files, O: Write>(
-    alloc: Global,
-    folder: &str,
-    form: Form,
+    listing: Listing<'_>,
     files: &mut F,
     out: &mut O,
 ) -> Result<u8, Refusal>
     ensures refusal { (paths : ℕ) → 0 < paths → IfErr result (IsOfWork paths) }
     ensures status { IfOk result (λ status. status ≤ 1) }
-    ensures lists { IfOk result (λ status. ListsSet O.Write form folder.now (F.held files.old)
-        status out.old out.new) }
+    ensures lists { IfOk result (λ status. ListsSet O.Write listing.entry.style listing.entry.form
+        listing.entry.folder.now (F.held files.old) status out.old out.new) }
     ensures kept { F.held files.new ≡ F.held files.old }
 {
-    let bytes = directory_bytes(alloc, 0, folder, files)?;
-    let forest = match read_directory(alloc, &bytes) {
+    let bytes = directory_bytes(listing.alloc, 0, listing.folder, files)?;
+    let forest = match read_directory(listing.alloc, &bytes) {
         Ok(forest) => forest,
         Err(fault) => return Err(refusal_of(0, fault)),
     };
-    match list_records(&forest, form, out) {
+    match list_records(&forest, listing.form, listing.style, out) {
         Ok(()) => Ok(0),
         Err(_) => Ok(1),
     }

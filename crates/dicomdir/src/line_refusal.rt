@@ -2,10 +2,10 @@ ghost use Rattle.std.specs.Prelude.{◌≡◌, ◌≤◌, true};
 ghost use Rattle.dicomdir.specs.Mistakes.{IsMistake};
 
 use crate::masked_words::{have_control, mask_words};
-use crate::refusal::{Paths, Refusal, tell};
+use crate::refusal::{Paths, Refusal, RefusalForm, tell};
 use dd_elem::Write;
 use dd_line::{LineFault, read_words};
-use dd_report::Text;
+use dd_lines::Text;
 use std::alloc::Global;
 use std::fmt;
 
@@ -25,7 +25,7 @@ pub(crate) fn refuse_line<O: Write, E: Write>(
     ensures done { result ≡ 0 → err.new ≡ err.old }
 {
     match fault {
-        LineFault::Memory => tell(&Refusal::memory(), Paths::none(), err),
+        LineFault::Memory => tell(&Refusal::memory(), Paths::none(), RefusalForm::Words, err),
         LineFault::Refused(error) => {
             let mistake = error.use_stderr();
             if have_control(words) {
@@ -52,11 +52,11 @@ fn refuse_masked<O: Write, E: Write>(
     ensures done { result ≡ 0 → err.new ≡ err.old }
 {
     let Ok(shown) = mask_words(alloc, words) else {
-        return tell(&Refusal::memory(), Paths::none(), err);
+        return tell(&Refusal::memory(), Paths::none(), RefusalForm::Words, err);
     };
     match read_words(alloc, shown.as_slice()) {
         Err(LineFault::Refused(error)) => tell_parser(&error, mistake, out, err),
-        Err(LineFault::Memory) => tell(&Refusal::memory(), Paths::none(), err),
+        Err(LineFault::Memory) => tell(&Refusal::memory(), Paths::none(), RefusalForm::Words, err),
 
         // Words that are refused are refused with `?` too: no name and no number has a `?`.
         Ok(_) => 2,

@@ -1,22 +1,27 @@
-ghost use Rattle.std.specs.Prelude.{◌≡◌, ◌≤◌, ◌⊎◌, All, IfErr, IfOk, IsOk, false, length, string_bytes};
+ghost use Rattle.std.specs.Prelude.{◌≡◌, ◌≤◌, ◌⊎◌, All, IfErr, IfOk, IsErr, IsOk, OnOk, false, length, string_bytes};
 ghost use Rattle.dd_elem.specs.Device.{HasFailed};
 ghost use Rattle.dd_layout.specs.Plans.{size};
-ghost use Rattle.dd_report.specs.Text.{TakesText};
-ghost use Rattle.dicomdir.specs.Done.{ending_text, images_text, word_of};
+ghost use Rattle.dd_lines.specs.Text.{TakesText};
+ghost use Rattle.dicomdir.specs.Done.{counts_words, ending_text, images_text, images_words, word_of};
+ghost use Rattle.dicomdir.specs.Inspecting.{style_by};
 ghost use Rattle.dicomdir.specs.Made.{MakesFileSet, MayLink};
 ghost use Rattle.dicomdir.specs.Refusal.{IsOfWork};
 
 use crate::file_set::{FileSet, write_file_set};
+use crate::inspecting::style_for;
 use crate::names::Names;
+use crate::note_json;
 use crate::origins::Origins;
 use crate::refusal::Refusal;
 use dd_elem::Write;
 use dd_files::{Files, Progress};
+use dd_json::Style;
 use dd_layout::Plan;
 use dd_line::NewSet;
-use dd_report::print_line;
+use dd_lines::print_line;
 use itoa::Buffer;
 use std::alloc::Global;
+use std::fmt;
 
 /// How a command makes its file-set.
 #[derive(Clone, Copy)]
@@ -38,6 +43,8 @@ pub(crate) struct Making<'a> {
     pub(crate) bad_names: &'a [usize],
     /// Whether a person is shown what became of the sources.
     pub(crate) explains: bool,
+    /// How the lines of the output are printed.
+    pub(crate) style: Style,
 }
 
 impl<'a> Making<'a> {
@@ -55,6 +62,7 @@ impl<'a> Making<'a> {
         ensures dry { result.dry_run ≡ new_set.now.dry_run }
         ensures link { result.link ≡ link }
         ensures keep_going { result.keep_going ≡ false }
+        ensures style { result.style ≡ style_by new_set.now.json }
     {
         Making {
             alloc,
@@ -67,7 +75,13 @@ impl<'a> Making<'a> {
             keep_going: false,
             bad_names: &[],
             explains,
+            style: style_for(new_set.json),
         }
+    }
+
+    /// Says whether a person is shown words about what the files hold.
+    pub(crate) fn explains_in_words(&self) -> bool {
+        self.explains && self.style == Style::Text
     }
 }
 
@@ -85,8 +99,8 @@ impl Ending {
         ensures { result.now ≡ word_of self }
     {
         match self {
-            Ending::Done => "DONE ",
-            Ending::Planned => "PLAN ",
+            Ending::Done => "DONE",
+            Ending::Planned => "PLAN",
         }
     }
 }
@@ -95,6 +109,7 @@ impl Ending {
 pub(crate) fn make_file_set<F: Files + Progress, O: Origins, W: Write>(
     alloc: Global,
     set: &FileSet<'_, O>,
+    style: Style,
     files: &mut F,
     out: &mut W,
 ) -> Result<u8, Refusal>
@@ -107,49 +122,88 @@ pub(crate) fn make_file_set<F: Files + Progress, O: Origins, W: Write>(
         (F.held files.old) (F.held files.new) }
 {
     write_file_set(alloc, set, files)?;
-    Ok(tell_counts(Ending::Done, set.plan, out))
+    Ok(tell_counts(Ending::Done, set.plan, style, out))
 }
 
 /// Prints the last line: how many images the file-set has, and the size of its directory. Gives the status: 1 where the
 /// output failed.
-pub(crate) fn tell_counts<O: Write>(ending: Ending, plan: &Plan, out: &mut O) -> u8
+pub(crate) fn tell_counts<O: Write>(ending: Ending, plan: &Plan, style: Style, out: &mut O) -> u8
     ensures status { (result ≡ 0) ⊎ (result ≡ 1) }
-    ensures done { result ≡ 0 → TakesText O.Write out.old out.new (ending_text ending
+    ensures done { result ≡ 0 → TakesText O.Write out.old out.new (ending_text style ending
         (length plan.now.versions) (size plan.now.label plan.now.versions plan.now.withdrawn)) }
     ensures failed { result ≡ 1 → HasFailed (O.failures out.old) (O.failures out.new) }
 {
+    let (instances, bytes) = (plan.versions().len() as u64, u64::from(plan.size()));
+    match style {
+        Style::Text => status_of(print_counts(ending, instances, bytes, out)),
+        Style::Json => status_of(note_json::print_counts(ending.word(), instances, bytes, out)),
+    }
+}
+
+fn print_counts<O: Write>(ending: Ending, instances: u64, bytes: u64, out: &mut O) -> fmt::Result
+    ensures told { OnOk result (TakesText O.Write out.old out.new
+        (counts_words (word_of ending) instances bytes)) }
+    ensures worked { IsOk result → O.failures out.new ≡ O.failures out.old }
+    ensures failed { IsErr result → HasFailed (O.failures out.old) (O.failures out.new) }
+{
     let (mut count, mut size) = (Buffer::new(), Buffer::new());
-    let count = count.format(plan.versions().len());
-    let size = size.format(plan.size());
-    match print_line(&[ending.word(), count, " instances, ", size, " bytes"], out) {
+    let (count, size) = (count.format(instances), size.format(bytes));
+    let parts = [ending.word(), " ", count, " instances, ", size, " bytes"];
+    print_line(&parts, out)
+}
+
+/// Gives the status: 1 where the output failed.
+fn status_of(printed: fmt::Result) -> u8
+    ensures status { (result ≡ 0) ⊎ (result ≡ 1) }
+    ensures zero { result ≡ 0 → IsOk printed }
+    ensures one { result ≡ 1 → IsErr printed }
+{
+    match printed {
         Ok(()) => 0,
         Err(_) => 1,
     }
 }
 
 /// Prints what would be made, with the number of bytes of all images. Gives the status: 1 where the output failed.
-pub(crate) fn tell_plan_of_images<O: Write>(plan: &Plan, images: u64, out: &mut O) -> u8
+pub(crate) fn tell_plan_of_images<O: Write>(
+    plan: &Plan,
+    images: u64,
+    style: Style,
+    out: &mut O,
+) -> u8
     ensures status { (result ≡ 0) ⊎ (result ≡ 1) }
     ensures done { result ≡ 0 → TakesText O.Write out.old out.new
-        (images_text (length plan.now.versions)
+        (images_text style (length plan.now.versions)
         (size plan.now.label plan.now.versions plan.now.withdrawn) images) }
     ensures failed { result ≡ 1 → HasFailed (O.failures out.old) (O.failures out.new) }
 {
-    let (mut count, mut size, mut all) = (Buffer::new(), Buffer::new(), Buffer::new());
-    let count = count.format(plan.versions().len());
-    let size = size.format(plan.size());
-    let all = all.format(images);
-    let parts = [
-        "PLAN ",
-        count,
-        " instances, ",
-        size,
-        " bytes, ",
-        all,
-        " bytes of images",
-    ];
-    match print_line(&parts, out) {
-        Ok(()) => 0,
-        Err(_) => 1,
+    let (instances, bytes) = (plan.versions().len() as u64, u64::from(plan.size()));
+    match style {
+        Style::Text => status_of(print_images(instances, bytes, images, out)),
+        Style::Json => status_of(note_json::print_images(instances, bytes, images, out)),
     }
+}
+
+fn print_images<O: Write>(instances: u64, bytes: u64, images: u64, out: &mut O) -> fmt::Result
+    ensures told { OnOk result (TakesText O.Write out.old out.new
+        (images_words instances bytes images)) }
+    ensures worked { IsOk result → O.failures out.new ≡ O.failures out.old }
+    ensures failed { IsErr result → HasFailed (O.failures out.old) (O.failures out.new) }
+{
+    let (mut count, mut size, mut all) = (Buffer::new(), Buffer::new(), Buffer::new());
+    let (count, size) = (count.format(instances), size.format(bytes));
+    let all = all.format(images);
+    print_line(
+        &[
+            "PLAN",
+            " ",
+            count,
+            " instances, ",
+            size,
+            " bytes, ",
+            all,
+            " bytes of images",
+        ],
+        out,
+    )
 }

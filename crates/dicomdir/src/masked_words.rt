@@ -1,6 +1,6 @@
 ghost use Rattle.std.specs.Prelude.{◌≡◌, IfOk, false, map, string_bytes};
 ghost use Rattle.std.specs.List.{list_any};
-ghost use Rattle.dd_report.specs.Text.{masked, masked_char};
+ghost use Rattle.dd_lines.specs.Text.{masked, masked_char};
 ghost use Rattle.dicomdir.specs.MaskedWords.{has_control};
 
 use dd_elem::Memory;

@@ -22,6 +22,7 @@ use crate::set_sum::{SetSum, show_set_sum};
 use dd_elem::{Memory, Write};
 use dd_engine::{MergeFault, NotedFault, NotedMerge, Pick, merge_with_notes, withdraw_with_notes};
 use dd_files::{Files, Hints, Progress};
+use dd_json::Style;
 use dd_layout::Limits;
 use std::alloc::Global;
 use std::{fmt, slice};
@@ -45,7 +46,7 @@ pub(crate) fn run_merge<F: Files + Progress + Hints, O: Write>(
     let mut sum = SetSum::new();
     let done = merge_sets(making, sets, &mut sum, files, out);
     if making.explains && matches!(done, Ok(0)) {
-        show_set_sum(&sum, files);
+        show_set_sum(&sum, making.style, files);
     }
     done
 }
@@ -71,7 +72,7 @@ fn merge_sets<F: Files + Progress + Hints, O: Write>(
     let limits = Limits::of_bytes(making.max_bytes);
     let noted = match merge_with_notes(making.alloc, &slices, &making.names.choice, limits) {
         Ok(noted) => noted,
-        Err(fault) => return Err(refuse(sets, &fault, out)),
+        Err(fault) => return Err(refuse(sets, &fault, making.style, out)),
     };
     *sum = SetSum::of(&noted, sets.len());
     let origins = SetFiles {
@@ -101,7 +102,7 @@ pub(crate) fn run_withdraw<F: Files + Progress + Hints, O: Write>(
     let mut sum = SetSum::new();
     let done = withdraw_of(making, slice::from_ref(set), &mut sum, files, out);
     if making.explains && matches!(done, Ok(0)) {
-        show_set_sum(&sum, files);
+        show_set_sum(&sum, making.style, files);
     }
     match done {
         Ok(status) => Ok(status),
@@ -136,7 +137,7 @@ fn withdraw_of<F: Files + Progress + Hints, O: Write>(
         limits,
     ) {
         Ok(noted) => noted,
-        Err(fault) => return Err(refuse(sets, &fault, out)),
+        Err(fault) => return Err(refuse(sets, &fault, making.style, out)),
     };
     *sum = SetSum::of(&noted, sets.len());
     let origins = SetFiles {
@@ -170,13 +171,14 @@ fn write_noted<'a, F: Files + Progress + Hints, O: Write>(
         making.entry.folder.now noted.now.merged.plan noted.now.merged.picks.items
         (F.held files.old) (F.held files.new)) }
 {
-    if tell_noted(noted, making.strict, sets.folders, out).is_err() {
+    if tell_noted(noted, sets.folders, making.strict, making.style, out).is_err() {
         return Ok(1);
     }
     refuse_noted(making.strict, is_noted(noted))?;
-    show_dates(making.explains, &noted.merged.plan, files);
+    show_dates(making.explains_in_words(), &noted.merged.plan, files);
     if making.dry_run {
-        return Ok(tell_counts(Ending::Planned, &noted.merged.plan, out));
+        let plan = &noted.merged.plan;
+        return Ok(tell_counts(Ending::Planned, plan, making.style, out));
     }
     let set = FileSet {
         folder: making.folder,
@@ -184,7 +186,7 @@ fn write_noted<'a, F: Files + Progress + Hints, O: Write>(
         origins: sets,
         picks: &noted.merged.picks,
     };
-    make_file_set(making.alloc, &set, files, out)
+    make_file_set(making.alloc, &set, making.style, files, out)
 }
 
 fn is_noted(noted: &NotedMerge<'_>) -> bool
@@ -198,8 +200,9 @@ fn is_noted(noted: &NotedMerge<'_>) -> bool
 /// printed only where the run is strict. It fails only where the output failed.
 fn tell_noted<O: Write>(
     noted: &NotedMerge<'_>,
-    is_strict: bool,
     folders: &[String],
+    is_strict: bool,
+    style: Style,
     out: &mut O,
 ) -> fmt::Result
     requires { NamesBelow (length folders.now) noted.now }
@@ -211,13 +214,13 @@ fn tell_noted<O: Write>(
         notes,
         sets,
     } = noted;
-    tell_unreached(&sets.unreached, folders, out)?;
-    tell_left_out(&notes.left_out, folders, out)?;
+    tell_unreached(&sets.unreached, folders, style, out)?;
+    tell_left_out(&notes.left_out, folders, style, out)?;
     if is_strict {
-        tell_withdrawn(&sets.withdrawn, folders, out)?;
+        tell_withdrawn(&sets.withdrawn, folders, style, out)?;
     }
-    tell_unlisted(&sets.unlisted, out)?;
-    tell_names(&notes.names, out)
+    tell_unlisted(&sets.unlisted, style, out)?;
+    tell_names(&notes.names, style, out)
 }
 
 pub(crate) fn slices<'a>(alloc: Global, all: &'a [Vec<u8>]) -> Result<Vec<&'a [u8]>, Memory>
@@ -236,6 +239,7 @@ pub(crate) fn slices<'a>(alloc: Global, all: &'a [Vec<u8>]) -> Result<Vec<&'a [u
 fn refuse<O: Write>(
     folders: &[String],
     noted: &NotedFault<MergeFault, Pick<'_>>,
+    style: Style,
     out: &mut O,
 ) -> Refusal
     requires named { IsNamedSet (length folders.now) noted.now.fault }
@@ -247,7 +251,7 @@ fn refuse<O: Write>(
         MergeFault::Dir(at, fault) => Refusal::of(Subject::Source(at), ProgramFault::Dir(fault)),
         MergeFault::Own(at, fault) => Refusal::of(Subject::Source(at), ProgramFault::Own(fault)),
         MergeFault::Plan(fault) => {
-            tell_conflict(&fault, &noted.conflict, folders, out);
+            tell_conflict(&fault, &noted.conflict, folders, style, out);
             Refusal::general(ProgramFault::Plan(fault))
         }
     }

@@ -4,18 +4,22 @@ ghost use Rattle.std.specs.Prelude.{length, true};
 ghost use Rattle.dd_elem.specs.Device.{HasFailed};
 ghost use Rattle.dd_engine.specs.Noting.{AreBelow, IsBelow};
 ghost use Rattle.dd_line.specs.Line.{words_of};
-ghost use Rattle.dd_report.specs.Text.{TakesText};
+ghost use Rattle.dd_lines.specs.Text.{TakesText};
 ghost use Rattle.dicomdir.specs.Noted.{HasNotes};
 ghost use Rattle.dicomdir.specs.Refusal.{IsOfWork, IsStrict};
-ghost use Rattle.dicomdir.specs.Said.{AreLines, IsLeftOut, IsNames, IsNamesOf, IsSkip, left_out_line, shown_text};
+ghost use Rattle.dicomdir.specs.Said.{AreLines, IsLeftOut, IsNames, IsSkip, left_out_line, left_out_words};
+ghost use Rattle.dicomdir.specs.Said.{names_words, shown_text, skip_line};
+ghost use Rattle.serde_json.specs.Data.{Data};
 
+use crate::note_json;
 use crate::refusal::{ProgramFault, Refusal, Words};
 use crate::shown_path::{ShownFile, ShownPath};
 use dd_elem::{Key, Uid, Write};
 use dd_engine::{ConflictingFiles, LeftOut, Notes, PatientNames};
+use dd_json::Style;
 use dd_keys::KeyFault;
 use dd_layout::PlanFault;
-use dd_report::{print_line, show_line};
+use dd_lines::{print_line, show_line};
 use itoa::Buffer;
 use std::fmt::{self, InlineText};
 use std::str;
@@ -50,11 +54,12 @@ pub(crate) fn tell_skipped<O: Write>(
     skipped: &[(usize, KeyFault)],
     unread: Unread<'_>,
     sources: &[String],
+    style: Style,
     out: &mut O,
 ) -> fmt::Result
     requires { All (λ skip. skip.0 < length sources.now) skipped.now }
     ensures told { OnOk result ((text : List ℕ)
-        × AreLines (IsSkip (words_of sources.now)) skipped.now text
+        × AreLines (IsSkip style (words_of sources.now)) skipped.now text
         × TakesText O.Write out.old out.new text) }
     ensures worked { IsOk result → O.failures out.new ≡ O.failures out.old }
     ensures failed { IsErr result → HasFailed (O.failures out.old) (O.failures out.new) }
@@ -64,21 +69,33 @@ pub(crate) fn tell_skipped<O: Write>(
             KeyFault::Read => Words::of(&unread.fault_of(*at)),
             fault => Words::of(fault),
         };
-        let path = sources[*at].as_str();
-        print_line(&["SKIP ", path, ": ", words.as_str()], out)?;
+        tell_skip(sources[*at].as_str(), words.as_str(), style, out)?;
     }
     Ok(())
+}
+
+fn tell_skip<O: Write>(path: &str, words: &str, style: Style, out: &mut O) -> fmt::Result
+    ensures told { OnOk result ((fault : Data)
+        × TakesText O.Write out.old out.new (skip_line style path.now words.now fault)) }
+    ensures worked { IsOk result → O.failures out.new ≡ O.failures out.old }
+    ensures failed { IsErr result → HasFailed (O.failures out.old) (O.failures out.new) }
+{
+    match style {
+        Style::Text => print_line(&["SKIP ", path, ": ", words], out),
+        Style::Json => note_json::print_skip(path, words, out),
+    }
 }
 
 /// Prints each file that is left out, and which one is kept. `paths` are the sources, or the folders of the file-sets.
 pub(crate) fn tell_left_out<T: ShownFile, O: Write>(
     left_out: &[LeftOut<T>],
     paths: &[String],
+    style: Style,
     out: &mut O,
 ) -> fmt::Result
     requires { AreBelow T.number (length paths.now) left_out.now }
     ensures told { OnOk result ((text : List ℕ)
-        × AreLines (IsLeftOut (T.shows (words_of paths.now))) left_out.now text
+        × AreLines (IsLeftOut style (T.shows (words_of paths.now))) left_out.now text
         × TakesText O.Write out.old out.new text) }
     ensures worked { IsOk result → O.failures out.new ≡ O.failures out.old }
     ensures failed { IsErr result → HasFailed (O.failures out.old) (O.failures out.new) }
@@ -86,7 +103,7 @@ pub(crate) fn tell_left_out<T: ShownFile, O: Write>(
     for note in left_out {
         let file = note.file.path_among(paths);
         let kept = note.kept.path_among(paths);
-        tell_left_out_for(file, kept, &note.instance, out)?;
+        tell_left_out_for(file, kept, &note.instance, style, out)?;
     }
     Ok(())
 }
@@ -95,20 +112,31 @@ fn tell_left_out_for<O: Write>(
     file: ShownPath<'_>,
     kept: ShownPath<'_>,
     instance: &Uid,
+    style: Style,
     out: &mut O,
 ) -> fmt::Result
     ensures told { OnOk result (TakesText O.Write out.old out.new
-        (left_out_line (shown_text file.entry) (shown_text kept.entry) instance.now)) }
+        (left_out_line style (shown_text file.entry) (shown_text kept.entry) instance.now)) }
     ensures worked { IsOk result → O.failures out.new ≡ O.failures out.old }
     ensures failed { IsErr result → HasFailed (O.failures out.old) (O.failures out.new) }
 {
-    let (one, other) = (file.inside, kept.inside);
-    print_left_out(
-        (file.folder, file.joint, one.as_str()),
-        (kept.folder, kept.joint, other.as_str()),
-        uid_text(instance),
-        out,
-    )
+    let (inside, kept_inside) = (file.inside, kept.inside);
+    let (inside, kept_inside) = (inside.as_str(), kept_inside.as_str());
+    let uid = uid_text(instance);
+    match style {
+        Style::Text => print_left_out(
+            (file.folder, file.joint, inside),
+            (kept.folder, kept.joint, kept_inside),
+            uid,
+            out,
+        ),
+        Style::Json => note_json::print_left_out(
+            &[file.folder, file.joint, inside],
+            &[kept.folder, kept.joint, kept_inside],
+            uid,
+            out,
+        ),
+    }
 }
 
 fn print_left_out<O: Write>(
@@ -117,7 +145,7 @@ fn print_left_out<O: Write>(
     uid: &str,
     out: &mut O,
 ) -> fmt::Result
-    ensures told { OnOk result (TakesText O.Write out.old out.new (left_out_line
+    ensures told { OnOk result (TakesText O.Write out.old out.new (left_out_words
         (file.entry.0.now ++ (file.entry.1.now ++ file.entry.2.now))
         (kept.entry.0.now ++ (kept.entry.1.now ++ kept.entry.2.now)) uid.now)) }
     ensures worked { IsOk result → O.failures out.new ≡ O.failures out.old }
@@ -155,37 +183,44 @@ pub(crate) fn uid_text(uid: &Uid) -> &str
 }
 
 /// Prints the Patient IDs that have more than one name.
-pub(crate) fn tell_names<O: Write>(patients: &[PatientNames], out: &mut O) -> fmt::Result
-    ensures told { OnOk result ((text : List ℕ) × AreLines IsNames patients.now text
+pub(crate) fn tell_names<O: Write>(
+    patients: &[PatientNames],
+    style: Style,
+    out: &mut O,
+) -> fmt::Result
+    ensures told { OnOk result ((text : List ℕ) × AreLines (IsNames style) patients.now text
         × TakesText O.Write out.old out.new text) }
     ensures worked { IsOk result → O.failures out.new ≡ O.failures out.old }
     ensures failed { IsErr result → HasFailed (O.failures out.old) (O.failures out.new) }
 {
     for patient in patients {
-        tell_names_of(patient, out)?;
+        tell_names_of(patient, style, out)?;
     }
     Ok(())
 }
 
 /// Prints the line of a patient, with at most ten names.
-fn tell_names_of<O: Write>(patient: &PatientNames, out: &mut O) -> fmt::Result
-    ensures told { OnOk result ((line : List ℕ) × IsNames patient.now line
+fn tell_names_of<O: Write>(patient: &PatientNames, style: Style, out: &mut O) -> fmt::Result
+    ensures told { OnOk result ((line : List ℕ) × IsNames style patient.now line
         × TakesText O.Write out.old out.new line) }
     ensures worked { IsOk result → O.failures out.new ≡ O.failures out.old }
     ensures failed { IsErr result → HasFailed (O.failures out.old) (O.failures out.new) }
 {
-    let names = patient.names();
-    let mut count = Buffer::new();
-    let count = count.format(names.len());
-    print_names(patient.id().as_bytes(), count.as_bytes(), names, out)
+    let (id, names) = (patient.id().as_bytes(), patient.names());
+    match style {
+        Style::Text => print_names(id, names, out),
+        Style::Json => note_json::print_names(id, names, out),
+    }
 }
 
-fn print_names<O: Write>(id: &[u8], count: &[u8], names: &[Key], out: &mut O) -> fmt::Result
-    ensures told { OnOk result ((line : List ℕ) × IsNamesOf id.now line
-        × TakesText O.Write out.old out.new line) }
+fn print_names<O: Write>(id: &[u8], names: &[Key], out: &mut O) -> fmt::Result
+    ensures told { OnOk result ((more : List (List ℕ))
+        × TakesText O.Write out.old out.new (names_words id.now more)) }
     ensures worked { IsOk result → O.failures out.new ≡ O.failures out.old }
     ensures failed { IsErr result → HasFailed (O.failures out.old) (O.failures out.new) }
 {
+    let mut count = Buffer::new();
+    let count = count.format(names.len()).as_bytes();
     show_line(
         &[
             b"NOTE -: Patient ID ",
@@ -250,30 +285,35 @@ pub(crate) fn tell_conflict<T: ShownFile, O: Write>(
     fault: &PlanFault,
     conflict: &Option<ConflictingFiles<T>>,
     paths: &[String],
+    style: Style,
     out: &mut O,
 )
     requires { IsBelow T.number (length paths.now) conflict.now }
 {
     if let (PlanFault::Conflict(one, other), Some(files)) = (fault, conflict) {
-        if tell_has(files.one.path_among(paths), one, out).is_ok() {
-            let _ = tell_has(files.other.path_among(paths), other, out);
+        if tell_has(files.one.path_among(paths), one, style, out).is_ok() {
+            let _ = tell_has(files.other.path_among(paths), other, style, out);
         }
     }
 }
 
-fn tell_has<O: Write>(file: ShownPath<'_>, instance: &Uid, out: &mut O) -> fmt::Result {
-    let inside = file.inside;
-    let uid = UidText::of(instance);
-    print_has(file.folder, file.joint, inside.as_str(), uid.as_str(), out)
-}
-
-fn print_has<O: Write>(
-    folder: &str,
-    joint: &str,
-    inside: &str,
-    uid: &str,
+fn tell_has<O: Write>(
+    file: ShownPath<'_>,
+    instance: &Uid,
+    style: Style,
     out: &mut O,
 ) -> fmt::Result {
+    let inside = file.inside;
+    let uid = UidText::of(instance);
+    let (inside, uid) = (inside.as_str(), uid.as_str());
+    match style {
+        Style::Text => print_has((file.folder, file.joint, inside), uid, out),
+        Style::Json => note_json::print_conflict(&[file.folder, file.joint, inside], uid, out),
+    }
+}
+
+fn print_has<O: Write>(file: (&str, &str, &str), uid: &str, out: &mut O) -> fmt::Result {
+    let (folder, joint, inside) = file;
     print_line(&["NOTE ", folder, joint, inside, ": has ", uid], out)
 }
 

@@ -2,12 +2,12 @@
 ghost use Rattle.std.specs.Prelude.{◌≡◌, ◌≤◌, ◌<◌, ◌⊎◌, ◌↔◌, ℕ, List, [], IfErr, IfOk, length, true, false};
 ghost use Rattle.dd_line.specs.Line.{HasBadLimit, HasBadName, IsCheck, IsReading, LacksSources, OnlyReads};
 ghost use Rattle.dd_line.specs.Line.{words_of};
-ghost use Rattle.dd_line.specs.Requests.{id_of, instances_of, is_dry, keeps_going, read_of, uid_of};
+ghost use Rattle.dd_line.specs.Requests.{id_of, instances_of, is_dry, is_json, keeps_going, read_of, uid_of};
 ghost use Rattle.dd_line.specs.Requests.{verb_of};
 ghost use Rattle.dicomdir.specs.DryRun.{HasDryRun, HasKeepGoing};
 ghost use Rattle.dicomdir.specs.EmptyPaths.{HasEmptyPath, RequestsEmptyPath};
 ghost use Rattle.dicomdir.specs.Inspecting.{ChecksSet, IsList, ListsSet, PrintsRequested, comparison_in, first_path};
-ghost use Rattle.dicomdir.specs.Inspecting.{form_in};
+ghost use Rattle.dicomdir.specs.Inspecting.{form_in, style_by, style_in};
 ghost use Rattle.dicomdir.specs.Lines.{IndexesLine, IsIndex, IsMerge, IsWithdraw, MergesLine, WithdrawsLine};
 ghost use Rattle.dicomdir.specs.ListedNames.{AreOfSources, HavePaths};
 ghost use Rattle.dicomdir.specs.Made.{IsDone};
@@ -16,18 +16,19 @@ ghost use Rattle.dicomdir.specs.Refusal.{IsAmong, IsBadLine, IsOfWork};
 ghost use Rattle.dicomdir.specs.Words.{IsRequestStatus, IsStatusOf, IsTaken, MakesOf, MakesRequested, line_of};
 
 use crate::empty_paths::empty_path;
-use crate::hints::print_hints;
+use crate::hints::{hints_of, print_hints};
 use crate::index::run_index;
-use crate::inspecting::{comparison_of, form_of, run_check, run_list};
+use crate::inspecting::{check_of, listing_of, run_check, run_list, style_for};
 use crate::line_paths::{LinePaths, list_of, paths_of};
 use crate::line_refusal::refuse_line;
 use crate::making::Making;
 use crate::merging::{run_merge, run_withdraw};
 use crate::names::{Names, names_of};
-use crate::refusal::{Paths, Refusal, tell};
+use crate::refusal::{Paths, Refusal, RefusalForm, tell};
 use crate::source_paths::{all_sources, bad_names_in, paths_or};
 use dd_elem::Write;
 use dd_files::{Files, Hints, Progress};
+use dd_json::Style;
 use dd_line::{Request, read_request};
 use std::alloc::Global;
 
@@ -73,6 +74,8 @@ struct Work<'a> {
 /// written. It prints what it finds, or `OK <n> records`. With `--keys` it also compares what image files say of
 /// themselves with their records, and with `--strict` it finds each file whose record has no digest. `list [--long]
 /// SET` prints the records of a file-set and the instances that it withdraws.
+///
+/// With `--json` each of these lines is a JSON object (RFC 8259), and FAULT has its hints as members.
 ///
 /// The files show the progress of all but `list`, unless the line has `--quiet`. Hints follow the FAULT line where the
 /// files say that a person reads it, unless the line has `--quiet`, and with `--verbose` always.
@@ -120,11 +123,11 @@ pub fn run<F: Files + Progress + Hints, O: Write, E: Write>(
     // Where they say that, `list` has read the directory in the folder and sent its listing, and `check` has sent what
     // it found of each file, or that the directory can't be read.
     ensures lists { result ≡ 0 → IsTaken words.items → IsList (line_of words.items)
-        → ListsSet O.Write (form_in (line_of words.items)) (first_path (line_of words.items))
-        (F.held files.old) result out.old out.new }
+        → ListsSet O.Write (style_in (line_of words.items)) (form_in (line_of words.items))
+        (first_path (line_of words.items)) (F.held files.old) result out.old out.new }
     ensures checks { IsDone result → IsTaken words.items → IsCheck (line_of words.items)
         → ChecksSet F.In.Read (first_path (line_of words.items)) (F.held files.old)
-        (comparison_in (line_of words.items)) O.Write result
+        (comparison_in (line_of words.items)) (style_in (line_of words.items)) O.Write result
         (F.refusals files.old) (F.refusals files.new) out.old out.new }
 
     ensures done { result ≡ 0 → err.new ≡ err.old }
@@ -248,8 +251,24 @@ fn is_verbose(request: &Request) -> bool {
     }
 }
 
+/// Says how the lines of the request are printed.
+fn style_of(request: &Request) -> Style
+    ensures { result ≡ style_by (is_json request.now) }
+{
+    let is_json = match request {
+        Request::Index(index) => index.new_set.json,
+        Request::Merge(merge) => merge.new_set.json,
+        Request::Withdraw(withdraw) => withdraw.new_set.json,
+        Request::Check(check) => check.json,
+        Request::List(list) => list.json,
+    };
+    style_for(is_json)
+}
+
+/// Says whether hints are shown: JSON objects have them even where no person reads the error output.
 fn shows_hints<F: Hints>(request: &Request, files: &F) -> bool {
-    is_verbose(request) || (!is_quiet(request) && files.has_reader())
+    let has_reader = style_of(request) == Style::Json || files.has_reader();
+    is_verbose(request) || (!is_quiet(request) && has_reader)
 }
 
 /// Prints why the work was refused, with hints where these are shown, and answers the status.
@@ -264,9 +283,17 @@ fn tell_with_hints<F: Hints, E: Write>(
     ensures line { result ≡ 2 ↔ IsBadLine refusal.now.fault }
     ensures status { (result ≡ 1) ⊎ (result ≡ 2) }
 {
-    let status = tell(refusal, paths, err);
-    if shows_hints(request, files) {
-        print_hints(refusal, paths, files, err);
+    let hints = if shows_hints(request, files) {
+        Some(hints_of(refusal, paths, files))
+    } else {
+        None
+    };
+    if style_of(request) == Style::Json {
+        return tell(refusal, paths, RefusalForm::Json(hints.as_ref()), err);
+    }
+    let status = tell(refusal, paths, RefusalForm::Words, err);
+    if let Some(hints) = &hints {
+        print_hints(hints, err);
     }
     status
 }
@@ -362,9 +389,7 @@ fn run_verb<F: Files + Progress + Hints, O: Write>(
             let making = Making::of(alloc, &withdraw.new_set, names, false, explains);
             run_withdraw(making, &withdraw.set, files, out)
         }
-        Request::Check(check) => {
-            run_check(alloc, check.set.as_str(), comparison_of(check), files, out)
-        }
-        Request::List(list) => run_list(alloc, list.set.as_str(), form_of(list), files, out),
+        Request::Check(check) => run_check(check_of(alloc, check), files, out),
+        Request::List(list) => run_list(listing_of(alloc, list), files, out),
     }
 }

@@ -4,12 +4,15 @@ ghost use Rattle.dicomdir.specs.declared.refusal.ProgramFault.TheVariants as fau
 ghost use Rattle.dicomdir.specs.declared.refusal.Subject.TheVariants as subjects;
 ghost use Rattle.dicomdir.specs.Refusal.{IsAmong, IsBadLine};
 
+use crate::fault_json::print_fault_json;
+use crate::hints::ShownHints;
 use crate::image_path::{ImageFolder, ImagePath, ImagePathText, PathText};
 use dd_dir::{DirFault, OwnFault};
 use dd_elem::{BadSetId, BadUid, FileId, Memory, Write};
 use dd_files::{DIRECTORY, is_joined_by_slash};
+use dd_json::Json;
 use dd_layout::PlanFault;
-use dd_report::print_line;
+use dd_lines::print_line;
 use std::alloc::AllocError;
 use std::fmt::InlineText;
 use thiserror::Error;
@@ -155,15 +158,39 @@ impl From<Memory> for Refusal {
 /// The words of a fault, which always fit.
 pub(crate) type Words = InlineText<256>;
 
+/// How the line of a refusal is printed.
+#[derive(Clone, Copy)]
+pub(crate) enum RefusalForm<'a> {
+    /// In words.
+    Words,
+    /// As a JSON object, with these hints as members.
+    Json(Option<&'a ShownHints>),
+}
+
+/// What the line of a refusal says besides a path, and how.
+#[derive(Clone, Copy)]
+struct FaultLine<'a> {
+    words: &'a str,
+    form: RefusalForm<'a>,
+}
+
 /// Prints a refusal as one line, without allocating, and gives the exit status: 2 where the command line is at fault,
 /// else 1. A failure of the writer changes nothing.
-pub(crate) fn tell<W: Write>(refusal: &Refusal, paths: Paths<'_>, to: &mut W) -> u8
+pub(crate) fn tell<W: Write>(
+    refusal: &Refusal,
+    paths: Paths<'_>,
+    form: RefusalForm<'_>,
+    to: &mut W,
+) -> u8
     requires { IsAmong (length paths.sources.now) refusal.now.subject }
     ensures line { result ≡ 2 ↔ IsBadLine refusal.now.fault }
     ensures status { (result ≡ 1) ⊎ (result ≡ 2) }
 {
     let words = Words::of(&refusal.fault);
-    let words = words.as_str();
+    let line = FaultLine {
+        words: words.as_str(),
+        form,
+    };
     let Paths {
         folder,
         sources,
@@ -171,37 +198,52 @@ pub(crate) fn tell<W: Write>(refusal: &Refusal, paths: Paths<'_>, to: &mut W) ->
         unstored,
     } = paths;
     match refusal.subject {
-        Subject::General => print_fault("-", words, to),
-        Subject::Source(at) => print_fault(sources[at].as_str(), words, to),
-        Subject::SetDirectory(at) => print_inside(sources[at].as_str(), DIRECTORY, words, to),
+        Subject::General => print_general(line, to),
+        Subject::Source(at) => print_fault(sources[at].as_str(), line, to),
+        Subject::SetDirectory(at) => print_inside(sources[at].as_str(), DIRECTORY, line, to),
         Subject::SetFile(at, path) => {
-            print_inside(sources[at].as_str(), path.as_str(), words, to);
+            print_inside(sources[at].as_str(), path.as_str(), line, to);
         }
-        Subject::Folder => print_fault(folder, words, to),
-        Subject::Directory => print_inside(folder, DIRECTORY, words, to),
+        Subject::Folder => print_fault(folder, line, to),
+        Subject::Directory => print_inside(folder, DIRECTORY, line, to),
         Subject::Image(file) => {
             let name = ImagePathText::of(&ImagePath(file));
-            print_inside(folder, name.as_str(), words, to);
+            print_inside(folder, name.as_str(), line, to);
         }
         Subject::ImageFolder(file) => {
             let name = ImagePathText::of(&ImageFolder(file));
-            print_inside(folder, name.as_str(), words, to);
+            print_inside(folder, name.as_str(), line, to);
         }
-        Subject::List => print_fault(list, words, to),
-        Subject::Unstored => print_fault(unstored, words, to),
+        Subject::List => print_fault(list, line, to),
+        Subject::Unstored => print_fault(unstored, line, to),
     }
     status_of(&refusal.fault)
 }
 
-fn print_fault<W: Write>(path: &str, words: &str, to: &mut W) {
-    let _ = print_line(&["FAULT ", path, ": ", words], to);
+fn print_general<W: Write>(line: FaultLine<'_>, to: &mut W) {
+    let _ = match line.form {
+        RefusalForm::Words => print_line(&["FAULT -: ", line.words], to),
+        RefusalForm::Json(hints) => print_fault_json(Json::Null, line.words, hints, to),
+    };
 }
 
-fn print_inside<W: Write>(folder: &str, name: &str, words: &str, to: &mut W) {
-    let _ = if is_joined_by_slash(folder) {
-        print_line(&["FAULT ", folder, "/", name, ": ", words], to)
-    } else {
-        print_line(&["FAULT ", folder, name, ": ", words], to)
+fn print_fault<W: Write>(path: &str, line: FaultLine<'_>, to: &mut W) {
+    print_at([path, "", ""], line, to);
+}
+
+fn print_inside<W: Write>(folder: &str, name: &str, line: FaultLine<'_>, to: &mut W) {
+    let joint = if is_joined_by_slash(folder) { "/" } else { "" };
+    print_at([folder, joint, name], line, to);
+}
+
+/// Prints the line with the path of these parts, one after the other.
+fn print_at<W: Write>(path: [&str; 3], line: FaultLine<'_>, to: &mut W) {
+    let _ = match line.form {
+        RefusalForm::Words => {
+            let [folder, joint, name] = path;
+            print_line(&["FAULT ", folder, joint, name, ": ", line.words], to)
+        }
+        RefusalForm::Json(hints) => print_fault_json(Json::Texts(&path), line.words, hints, to),
     };
 }
 

@@ -9,6 +9,7 @@ ghost use Rattle.dicomdir.specs.Sum.{CountsImages, ImagesAddUp};
 use crate::sum::word_of_none;
 use dd_engine::NotedMerge;
 use dd_files::{Files, Hints};
+use dd_json::Style;
 use itoa::Buffer;
 
 /// The images of file-sets, by what became of them.
@@ -61,7 +62,16 @@ impl SetSum {
 }
 
 /// Shows what became of the images.
-pub(crate) fn show_set_sum<F: Files + Hints>(sum: &SetSum, files: &mut F)
+pub(crate) fn show_set_sum<F: Files + Hints>(sum: &SetSum, style: Style, files: &mut F)
+    ensures kept { F.held files.new ≡ F.held files.old }
+{
+    match style {
+        Style::Text => show_counts(sum, files),
+        Style::Json => show_counts_json(sum, files),
+    }
+}
+
+fn show_counts<F: Files + Hints>(sum: &SetSum, files: &mut F)
     ensures kept { F.held files.new ≡ F.held files.old }
 {
     let (mut sets, mut images, mut kept) = (Buffer::new(), Buffer::new(), Buffer::new());
@@ -81,5 +91,28 @@ pub(crate) fn show_set_sum<F: Files + Hints>(sum: &SetSum, files: &mut F)
         withdrawn.format(sum.withdrawn),
         " withdrawn",
         word_of_none(sum.kept),
+    ]);
+}
+
+fn show_counts_json<F: Files + Hints>(sum: &SetSum, files: &mut F)
+    ensures kept { F.held files.new ≡ F.held files.old }
+{
+    let (mut sets, mut images, mut kept) = (Buffer::new(), Buffer::new(), Buffer::new());
+    let (mut left_out, mut repeated) = (Buffer::new(), Buffer::new());
+    let mut withdrawn = Buffer::new();
+    files.show_line(&[
+        "{\"line\":\"SUM\",\"sets\":",
+        sets.format(sum.sets),
+        ",\"images\":",
+        images.format(sum.images),
+        ",\"kept\":",
+        kept.format(sum.kept),
+        ",\"left_out\":",
+        left_out.format(sum.left_out),
+        ",\"repeated\":",
+        repeated.format(sum.repeated),
+        ",\"withdrawn\":",
+        withdrawn.format(sum.withdrawn),
+        "}",
     ]);
 }

@@ -8,6 +8,7 @@ ghost use Rattle.dicomdir.specs.Sum.{AddsUp, CountsSources};
 
 use dd_engine::NotedIndex;
 use dd_files::{Files, Hints};
+use dd_json::Style;
 use dd_keys::KeyFault;
 use itoa::Buffer;
 
@@ -102,12 +103,17 @@ fn row_of(fault: &KeyFault) -> usize {
     }
 }
 
-/// Shows what to do about sources that were skipped, and what became of all.
-pub(crate) fn show_sum<F: Files + Hints>(sum: &Sum, files: &mut F)
+/// Shows what became of the sources, and in words also what to do about those that were skipped.
+pub(crate) fn show_sum<F: Files + Hints>(sum: &Sum, style: Style, files: &mut F)
     ensures kept { F.held files.new ≡ F.held files.old }
 {
-    show_first_steps(&sum.rows, files);
-    show_counts(sum, files);
+    match style {
+        Style::Text => {
+            show_first_steps(&sum.rows, files);
+            show_counts(sum, files);
+        }
+        Style::Json => show_counts_json(sum, files),
+    }
 }
 
 fn show_counts<F: Files + Hints>(sum: &Sum, files: &mut F)
@@ -127,6 +133,26 @@ fn show_counts<F: Files + Hints>(sum: &Sum, files: &mut F)
         repeated.format(sum.repeated),
         " repeated",
         word_of_none(sum.kept),
+    ]);
+}
+
+fn show_counts_json<F: Files + Hints>(sum: &Sum, files: &mut F)
+    ensures kept { F.held files.new ≡ F.held files.old }
+{
+    let (mut sources, mut kept, mut skipped) = (Buffer::new(), Buffer::new(), Buffer::new());
+    let (mut left_out, mut repeated) = (Buffer::new(), Buffer::new());
+    files.show_line(&[
+        "{\"line\":\"SUM\",\"sources\":",
+        sources.format(sum.sources),
+        ",\"kept\":",
+        kept.format(sum.kept),
+        ",\"skipped\":",
+        skipped.format(sum.skipped),
+        ",\"left_out\":",
+        left_out.format(sum.left_out),
+        ",\"repeated\":",
+        repeated.format(sum.repeated),
+        "}",
     ]);
 }
 

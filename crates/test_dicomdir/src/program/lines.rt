@@ -40,12 +40,15 @@ dicomdir index --files0-from=- set b.dcm a.dcm > Index - - 4294967295 set b.dcm 
 dicomdir index --files0-from '' set > Index - - 4294967295 set from ''
 dicomdir index --dry-run set --quiet image.dcm > Index - - 4294967295 set image.dcm with dry-run with quiet
 dicomdir index --verbose set image.dcm > Index - - 4294967295 set image.dcm with verbose
+dicomdir index set --json image.dcm > Index - - 4294967295 set image.dcm with json
+dicomdir index -- set --json > Index - - 4294967295 set --json
 dicomdir merge set a > Merge - - 4294967295 set a
 dicomdir merge set --files0-from list > Merge - - 4294967295 set from list
 dicomdir merge --strict --dry-run set a --quiet > Merge - - 4294967295 set a with strict with dry-run with quiet
 dicomdir merge --link set a b > Merge - - 4294967295 set a b with link
 dicomdir merge set --files0-from list --link > Merge - - 4294967295 set from list with link
 dicomdir merge set -- --link > Merge - - 4294967295 set --link
+dicomdir merge --json --quiet set a > Merge - - 4294967295 set a with quiet with json
 dicomdir merge --id DISC1 set b a b --uid 2.25.1 > Merge DISC1 2.25.1 4294967295 set b a b
 dicomdir merge --max-bytes 7 set check > Merge - - 7 set check
 dicomdir withdraw set old 1.2.840 > Withdraw - - 4294967295 set old without 1.2.840
@@ -54,6 +57,7 @@ dicomdir withdraw set old 1.2 --uid 2.25.1 1.3 1.2 > Withdraw - 2.25.1 429496729
 dicomdir withdraw -- set old --uid '' withdraw > Withdraw - - 4294967295 set old without --uid '' withdraw
 dicomdir withdraw set --strict old --quiet 1.2 --dry-run > \
 Withdraw - - 4294967295 set old without 1.2 with strict with dry-run with quiet
+dicomdir withdraw set old 1.2 --json > Withdraw - - 4294967295 set old without 1.2 with json
 dicomdir check set > Check - - 4294967295 set
 dicomdir check --quiet set > Check - - 4294967295 set with quiet
 dicomdir check --verbose set --quiet > Check - - 4294967295 set with quiet with verbose
@@ -65,10 +69,12 @@ dicomdir check -- --keys > Check - - 4294967295 --keys
 dicomdir check --strict set > Check - - 4294967295 set with strict
 dicomdir check --quiet --strict --keys set > Check - - 4294967295 set with keys with strict with quiet
 dicomdir check -- --strict > Check - - 4294967295 --strict
+dicomdir check --json set > Check - - 4294967295 set with json
 dicomdir list set > List - - 4294967295 set
 dicomdir list '' > List - - 4294967295 ''
 dicomdir list --long set > List - - 4294967295 set with long
 dicomdir list --verbose set > List - - 4294967295 set with verbose
+dicomdir list --json set --long > List - - 4294967295 set with long with json
 dicomdir > 2 true
 dicomdir build --uid 2.25.1 set image.dcm > 2 true
 dicomdir index > 2 true
@@ -102,6 +108,9 @@ dicomdir index set image.dcm --uid > 2 true
 dicomdir index set image.dcm --max-bytes > 2 true
 dicomdir index --strict set > 2 true
 dicomdir index --strict --strict set image.dcm > 2 true
+dicomdir index --json --json set image.dcm > 2 true
+dicomdir merge --json=true set a > 2 true
+dicomdir --json list set > 2 true
 dicomdir index --strict=true set image.dcm > 2 true
 dicomdir index -s set image.dcm > 2 true
 dicomdir --strict index set image.dcm > 2 true
@@ -209,7 +218,8 @@ fn push_flags(text: &mut String, asked: &Asked) -> Result<(), Fail> {
     push_flag(text, asked.quiet, " with quiet")?;
     push_flag(text, asked.verbose, " with verbose")?;
     push_flag(text, asked.long, " with long")?;
-    push_flag(text, asked.link, " with link")
+    push_flag(text, asked.link, " with link")?;
+    push_flag(text, asked.json, " with json")
 }
 
 fn push_flag(text: &mut String, is_set: bool, words: &str) -> Result<(), Fail> {

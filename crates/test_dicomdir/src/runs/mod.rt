@@ -4,6 +4,8 @@ mod devices;
 mod disc;
 mod hints;
 mod images;
+mod json;
+mod json_notes;
 mod lists;
 mod merges;
 mod mistakes;

@@ -5,32 +5,36 @@ use Rattle.dicomdir.proofs.inspecting.run_check.Goals as goal
 
 pub returns-in-Err-2-clause-checks : goal.returns-in-Err-2-clause-checks
 returns-in-Err-2-clause-checks g c =
-    check_broken g.F.In.Read g.O.Write c.args.folder.now c.in_ok-bytes.bytes.items (g.F.Files.held c.args.files.now)
-    c.args.comparison _ _ c.args.out.now c.tell_broken.new.out c.in_ok-bytes.ensures.read
+    check_broken g.F.In.Read g.O.Write c.args.check.folder.now c.in_ok-bytes.bytes.items
+    (g.F.Files.held c.args.files.now) c.args.check.comparison c.args.check.style
+    _ _ c.args.out.now c.tell_broken.new.out c.in_ok-bytes.ensures.read
     c.in-Err.fault c.tell_broken.result (rw c.deref.ensures.value at c.in-Err.ensures.refused)
     (λ memory. true≢false (sym (c.is_want_of_memory.ensures.1 memory) ∙ c.if-is_want_of_memory.false))
     c.tell_broken.ensures.status c.tell_broken.ensures.printed c.tell_broken.ensures.failed
 
 pub returns-in-Ok-true-clause-checks : goal.returns-in-Ok-true-clause-checks
 returns-in-Ok-true-clause-checks g c =
-    something_found g.F.In.Read g.O.Write c.args.folder.now c.in_ok-bytes.bytes.items (g.F.Files.held c.args.files.now)
-    c.args.comparison (g.F.Files.refusals c.args.files.now) (g.F.Files.refusals c.check_records.new.files) c.args.out.now
+    something_found g.F.In.Read g.O.Write c.args.check.folder.now c.in_ok-bytes.bytes.items
+    (g.F.Files.held c.args.files.now) c.args.check.comparison c.args.check.style
+    (g.F.Files.refusals c.args.files.now) (g.F.Files.refusals c.check_records.new.files) c.args.out.now
     c.check_records.new.to c.in_ok-bytes.ensures.read _ _ (rw c.deref.ensures.value at c.in-Ok.ensures.walk)
     (rw (c.in_ok-bytes.ensures.kept, c.in_ok-bytes.ensures.worked refl) at c.in-Ok-true.ensures.told)
     (search rules)
 
 pub returns-in-Ok-false-clause-checks : goal.returns-in-Ok-false-clause-checks
 returns-in-Ok-false-clause-checks g c =
-    nothing_found g.F.In.Read g.O.Write c.args.folder.now c.in_ok-bytes.bytes.items (g.F.Files.held c.args.files.now)
-    c.args.comparison (g.F.Files.refusals c.args.files.now) (g.F.Files.refusals c.check_records.new.files) c.args.out.now
+    nothing_found g.F.In.Read g.O.Write c.args.check.folder.now c.in_ok-bytes.bytes.items
+    (g.F.Files.held c.args.files.now) c.args.check.comparison c.args.check.style
+    (g.F.Files.refusals c.args.files.now) (g.F.Files.refusals c.check_records.new.files) c.args.out.now
     c.check_records.new.to c.in_ok-bytes.ensures.read _ _ (rw c.deref.ensures.value at c.in-Ok.ensures.walk)
     (rw (c.in_ok-bytes.ensures.kept, c.in_ok-bytes.ensures.worked refl) at c.in-Ok-false.ensures.told)
     (search rules)
 
 pub returns-in-Err-Unsent-clause-checks : goal.returns-in-Err-Unsent-clause-checks
 returns-in-Err-Unsent-clause-checks g c =
-    check_unsent g.F.In.Read g.O.Write c.args.folder.now c.in_ok-bytes.bytes.items (g.F.Files.held c.args.files.now)
-    c.args.comparison (g.F.Files.refusals c.args.files.now) (g.F.Files.refusals c.check_records.new.files) c.args.out.now
+    check_unsent g.F.In.Read g.O.Write c.args.check.folder.now c.in_ok-bytes.bytes.items
+    (g.F.Files.held c.args.files.now) c.args.check.comparison c.args.check.style
+    (g.F.Files.refusals c.args.files.now) (g.F.Files.refusals c.check_records.new.files) c.args.out.now
     c.check_records.new.to c.in_ok-bytes.ensures.read _ (rw c.deref.ensures.value at c.in-Ok.ensures.walk)
     (rw (c.in_ok-bytes.ensures.kept, c.in_ok-bytes.ensures.worked refl) at
     c.in-Err-Unsent.ensures.unsent (search rules))

@@ -1,7 +1,7 @@
 -- Each character is copied as it is shown.
 use Rattle.std.proofs.Common.{rules}
 use Rattle.std.proofs.lemmas.Str.{chars_from_encodes}
-use Rattle.dd_report.specs.Text.{masked}
+use Rattle.dd_lines.specs.Text.{masked}
 use Rattle.dicomdir.proofs.Masking.{masked_has_none}
 use Rattle.dicomdir.proofs.masked_words.mask.Goals as goal
 

@@ -1,7 +1,7 @@
 -- The words before this one are copied as they are shown.
 use Rattle.std.proofs.Common.{◌≡◌, false, map, string_bytes, take}
 use Rattle.std.specs.List.{list_any}
-use Rattle.dd_report.specs.Text.{masked}
+use Rattle.dd_lines.specs.Text.{masked}
 use Rattle.dicomdir.specs.MaskedWords.{has_control}
 use Rattle.dicomdir.proofs.masked_words.mask_words.Given as goal
 

@@ -1,7 +1,7 @@
 -- A path in three parts prints as one.
 use Rattle.std.proofs.Common.{ℕ, List, subst}
 use Rattle.std.specs.Prelude.{OnOk}
-use Rattle.dd_report.specs.Text.{TakesText}
+use Rattle.dd_lines.specs.Text.{TakesText}
 use Rattle.dicomdir.proofs.SaidLines.{left_out_parts}
 use Rattle.dicomdir.proofs.note_lines.print_left_out.Goals as goal
 

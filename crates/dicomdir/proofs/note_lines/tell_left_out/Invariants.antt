@@ -7,4 +7,5 @@ use Rattle.dicomdir.proofs.note_lines.tell_left_out.Given as goal
 
 abbrev pub invariant-loop-note : goal.invariant-loop-note
 invariant-loop-note g l =
-    SaidTo g.O.Write (IsLeftOut (g.T.ShownFile.shows (words_of l.paths))) (take l.note-index l.left_out) l.fn.out l.out
+    SaidTo g.O.Write (IsLeftOut l.style (g.T.ShownFile.shows (words_of l.paths))) (take l.note-index l.left_out) l.fn.out
+    l.out

@@ -6,4 +6,4 @@ use Rattle.dicomdir.proofs.note_lines.tell_names.Given as goal
 
 abbrev pub invariant-loop-patient : goal.invariant-loop-patient
 invariant-loop-patient g l =
-    SaidTo g.O.Write IsNames (take l.patient-index l.patients) l.fn.out l.out
+    SaidTo g.O.Write (IsNames l.style) (take l.patient-index l.patients) l.fn.out l.out

@@ -7,4 +7,4 @@ use Rattle.dicomdir.proofs.note_lines.tell_skipped.Given as goal
 
 abbrev pub invariant-loop-at : goal.invariant-loop-at
 invariant-loop-at g l =
-    SaidTo g.O.Write (IsSkip (words_of l.sources)) (take l.at-index l.skipped) l.fn.out l.out
+    SaidTo g.O.Write (IsSkip l.style (words_of l.sources)) (take l.at-index l.skipped) l.fn.out l.out

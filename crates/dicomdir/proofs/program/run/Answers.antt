@@ -4,7 +4,7 @@ use Rattle.dd_line.specs.Line.{HasBadLimit, HasBadName, IsCheck, IsReading, Lack
 use Rattle.dd_line.proofs.RequestLemmas.{given_bad, requested_bad, requested_check, requested_reads}
 use Rattle.dicomdir.specs.DryRun.{HasDryRun, HasKeepGoing}
 use Rattle.dicomdir.specs.EmptyPaths.{HasEmptyPath}
-use Rattle.dicomdir.specs.Inspecting.{ChecksSet, IsList, ListsSet, comparison_in, first_path, form_in}
+use Rattle.dicomdir.specs.Inspecting.{ChecksSet, IsList, ListsSet, comparison_in, first_path, form_in, style_in}
 use Rattle.dicomdir.specs.Lines.{IndexesLine, IsIndex, IsMerge, IsWithdraw, MergesLine, WithdrawsLine}
 use Rattle.dicomdir.specs.Made.{IsDone}
 use Rattle.dicomdir.specs.Words.{IsTaken, line_of}
@@ -95,7 +95,7 @@ returns-in-Ok-clause-withdraws g c = λ done _ names works.
 
 pub returns-in-Ok-clause-lists : goal.returns-in-Ok-clause-lists
 returns-in-Ok-clause-lists g c = λ is _ lists.
-    subst (λ words. ListsSet g.O.Write (form_in (line_of words)) (first_path (line_of words))
+    subst (λ words. ListsSet g.O.Write (style_in (line_of words)) (form_in (line_of words)) (first_path (line_of words))
     (g.F.Files.held c.args.files.now) c.run_request.result c.args.out.now c.run_request.new.out)
     c.as_slice.ensures.value
     (requested_lists g.F.In.Read g.O.Write _ _ _ _ _ _ c.in-Ok.request _ c.in-Ok.ensures.request
@@ -105,8 +105,8 @@ returns-in-Ok-clause-lists g c = λ is _ lists.
 pub returns-in-Ok-clause-checks : goal.returns-in-Ok-clause-checks
 returns-in-Ok-clause-checks g c = λ is _ checks.
     subst (λ words. ChecksSet g.F.In.Read (first_path (line_of words)) (g.F.Files.held c.args.files.now)
-    (comparison_in (line_of words)) g.O.Write c.run_request.result (g.F.Files.refusals c.args.files.now)
-    (g.F.Files.refusals c.run_request.new.files) c.args.out.now c.run_request.new.out)
+    (comparison_in (line_of words)) (style_in (line_of words)) g.O.Write c.run_request.result
+    (g.F.Files.refusals c.args.files.now) (g.F.Files.refusals c.run_request.new.files) c.args.out.now c.run_request.new.out)
     c.as_slice.ensures.value
     (requested_checks g.F.In.Read g.O.Write _ _ _ _ _ _ c.in-Ok.request _ c.in-Ok.ensures.request
     (subst (λ words. IsCheck (line_of words)) (sym c.as_slice.ensures.value) checks)

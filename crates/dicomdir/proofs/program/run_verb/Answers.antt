@@ -27,4 +27,10 @@ returns-in-Withdraw-clause-made g c = rw c.in-Withdraw.is (λ names have none ma
 
 pub returns-in-Check-clause-printed : goal.returns-in-Check-clause-printed
 returns-in-Check-clause-printed g c =
-    rw c.in-Check.is (rw (c.as_str.ensures.value, c.comparison_of.ensures) at c.run_check.ensures.checks)
+    let of = c.check_of.ensures in
+    rw c.in-Check.is (rw (of.folder, of.comparison, of.style) at c.run_check.ensures.checks)
+
+pub returns-in-List-clause-printed : goal.returns-in-List-clause-printed
+returns-in-List-clause-printed g c =
+    let of = c.listing_of.ensures in
+    rw c.in-List.is (rw (of.folder, of.form, of.style) at c.run_list.ensures.lists)
