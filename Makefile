@@ -55,7 +55,7 @@ install:
 	install -m 644 $(scripts:%=packaging/completions/%.fish) $(share)/fish/vendor_completions.d
 	install -D -m 644 -t $(ours) README.md CHANGELOG.md $(program).made-from
 	install -d $(ours)/docs $(ours)/docs/images
-	install -m 644 docs/*.md $(ours)/docs
+	install -m 644 docs/*.md docs/json-schema.json $(ours)/docs
 	install -m 644 docs/images/*.svg $(ours)/docs/images
 	install -D -m 644 -t $(ours)/examples bindings/c/tree.c bindings/python/tree.py
 	install -D -m 644 -t $(lib) $(library)
@@ -74,6 +74,7 @@ uninstall:
 	rm -f $(share)/zsh/site-functions/_dicomdir $(share)/dicomdir/functions $(share)/dicomdir/lines \
 		$(share)/dicomdir/slurm-job
 	rm -f $(ours)/README.md $(ours)/CHANGELOG.md $(ours)/dicomdir.made-from $(ours)/docs/*.md $(ours)/docs/images/*.svg
+	rm -f $(ours)/docs/json-schema.json
 	rm -f $(ours)/examples/tree.c $(ours)/examples/tree.py
 	rm -f $(lib)/libdicomdir.so.1 $(lib)/libdicomdir.so $(lib)/pkgconfig/dicomdir.pc
 	for name in $(headers); do rm -f $(include)/$$name || exit 1; done

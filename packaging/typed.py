@@ -37,6 +37,7 @@ CASES = [
     ("check --s", "check --strict "),
     ("check --keys two\\ f", "check --keys two\\ folders/"),
     ("list on", "list one/"),
+    ("list --j", "list --json "),
     ("list --l", "list --long "),
     ("list --v", "list --verbose "),
     ("list onl", "list onl"),

@@ -2,6 +2,7 @@
 import collections
 import dataclasses
 import hashlib
+import json
 import os
 import pathlib
 import re
@@ -59,6 +60,12 @@ COMMANDS = [
     Command("check of two images", "check SETA"),
     Command("check of two images and what they say", "check --keys SETA"),
     Command("check of two images that have no digests", "check --strict SETD"),
+    Command("index of three images and a text, in JSON", "index OUT a.dcm b.dcm text c.dcm --uid 2.25.0 --json"),
+    Command("index of images that clash, which is refused, in JSON", "index OUT a.dcm clash.dcm --uid 2.25.0 --json"),
+    Command("merge of sets with all notes, which is refused, in JSON",
+            "merge OUT SETA SETN SETU SETW --uid 2.25.0 --strict --json"),
+    Command("list of two images at length, in JSON", "list --long --json SETA"),
+    Command("check of two images, in JSON", "check --json SETA"),
 ]
 
 
@@ -193,6 +200,25 @@ def hide_image(path):
     pathlib.Path(path).write_bytes(directory)
 
 
+def in_words(text):
+    """What lines of JSON say: FAULT with its hints, and what is found of files, in words; all others as they stand."""
+    said = []
+    for line in text.splitlines(keepends=True):
+        try:
+            one = json.loads(line)
+        except ValueError:
+            said.append(line)
+            continue
+        if one["line"] == "FAULT":
+            said.append(f"FAULT {one['path'] or '-'}: {one['fault']['words']}\n")
+            said.extend(f"  {name}: {one[name]}\n" for name in ("cause", "help") if name in one)
+        elif one["line"] in ("MISSING", "UNREADABLE"):
+            said.append(f"{one['line']} {one['file']}\n")
+        else:
+            said.append(line)
+    return "".join(said)
+
+
 def text_of(path):
     """What a file says."""
     return pathlib.Path(path).read_text(encoding="utf-8", errors="replace")
@@ -249,9 +275,10 @@ class Room:
         calls = calls_of(text_of(self.log))
         refused += sum(call.is_refused for call in calls)
         left, links = tree("OUT"), links_of(self.given)
-        said = text_of(self.err).splitlines(keepends=True)
+        read = in_words if "--json" in command.words else str
+        said = read(text_of(self.err)).splitlines(keepends=True)
         err, hints = [[line for line in said if line.startswith("  ") == is_hint] for is_hint in (False, True)]
-        return Run(status, text_of(self.out), "".join(err), hints, left, links, calls, allocations, refused)
+        return Run(status, read(text_of(self.out)), "".join(err), hints, left, links, calls, allocations, refused)
 
     def learn(self, command):
         """Runs a command undisturbed."""
