@@ -11,11 +11,11 @@ _dicomdir_options()
 {
     case $1 in
         '') echo '-h --help -V --version' ;;
-        index) echo '--id --uid --max-bytes --strict --dry-run --quiet --verbose --files0-from -k --keep-going -h --help' ;;
-        merge) echo '--id --uid --max-bytes --strict --dry-run --quiet --verbose --files0-from --link -h --help' ;;
-        withdraw) echo '--id --uid --max-bytes --strict --dry-run --quiet --verbose -h --help' ;;
-        check) echo '--keys --strict --quiet --verbose -h --help' ;;
-        list) echo '--long --verbose -h --help' ;;
+        index) echo '--id --uid --max-bytes --strict --dry-run --quiet --verbose --json --files0-from -k --keep-going -h --help' ;;
+        merge) echo '--id --uid --max-bytes --strict --dry-run --quiet --verbose --json --files0-from --link -h --help' ;;
+        withdraw) echo '--id --uid --max-bytes --strict --dry-run --quiet --verbose --json -h --help' ;;
+        check) echo '--keys --strict --quiet --verbose --json -h --help' ;;
+        list) echo '--long --verbose --json -h --help' ;;
         dicomdir-parallel) echo '-j --hosts' ;;
         dicomdir-slurm) echo '-j --wait --part-options --last-options' ;;
     esac

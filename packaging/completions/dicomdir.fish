@@ -31,6 +31,8 @@ complete -c dicomdir -n '__fish_seen_subcommand_from index merge withdraw check'
     -d 'Shows no progress and no hints'
 complete -c dicomdir -n '__fish_seen_subcommand_from index merge withdraw check list' -l verbose \
     -d 'Shows hints where there is no terminal, too'
+complete -c dicomdir -n '__fish_seen_subcommand_from index merge withdraw check list' -l json \
+    -d 'Prints each line as a JSON object'
 complete -c dicomdir -n '__fish_seen_subcommand_from index merge' -l files0-from -r -F \
     -d 'Reads names from FILE, or -, ended by zero bytes'
 complete -c dicomdir -n '__fish_seen_subcommand_from index' -s k -l keep-going \
