@@ -1,8 +1,9 @@
 #!/usr/bin/python3
 """Runs the program with allocations or calls of the system refused, and compares each run with the undisturbed one.
 
-    refused.py allocations|calls PROGRAM LIBRARY EXAMPLE FOLDER
+    refused.py allocations|calls|golden PROGRAM LIBRARY EXAMPLE FOLDER
 
+With golden it only prints what each command says undisturbed, as the file golden has it.
 LIBRARY is refuse.c, compiled. All happens in FOLDER, which is new, in as many processes as JOBS says, else as there
 are processors. A line for each run is left in FOLDER/runs. The status is 1 where a run is not as it has to be; such
 runs are named on the error output.
@@ -14,7 +15,7 @@ import sys
 
 import calls
 import allocations
-from rooms import COMMANDS, DIRECTORY, Room
+from rooms import COMMANDS, DIRECTORY, Room, text_of
 
 PARTS = {"allocations": allocations, "calls": calls}
 # It ends once this number of things are wrong.
@@ -60,6 +61,15 @@ def learn(words):
         Worker.cases.append(case)
 
 
+def tell_golden(words):
+    """Prints each command, its status and both its outputs."""
+    *program, folder = words
+    room = Room(*program, os.path.join(folder, "room"))
+    for command in COMMANDS:
+        status = room.run(command).status
+        print(f"$ dicomdir {command.words}\n{text_of(room.out)}{text_of(room.err)}status {status}\n")
+
+
 def tell_wrong(wrong):
     """Tells what is wrong, and answers the status."""
     for line in wrong:
@@ -71,6 +81,9 @@ def main(part, *words):
     """Does a part, and answers the status."""
     words = [os.path.abspath(word) for word in words]
     os.mkdir(words[-1])
+    if part == "golden":
+        tell_golden(words)
+        return 0
     learn(words)
     tasks = [(part, number, task) for number, case in enumerate(Worker.cases) for task in PARTS[part].tasks(case)]
     results = [(case, []) for case in Worker.cases]

@@ -62,7 +62,7 @@ COMMANDS = [
     Command("check of two images that have no digests", "check --strict SETD"),
     Command("index of three images and a text, in JSON", "index OUT a.dcm b.dcm text c.dcm --uid 2.25.0 --json"),
     Command("index of images that clash, which is refused, in JSON", "index OUT a.dcm clash.dcm --uid 2.25.0 --json"),
-    Command("merge of sets with all notes, which is refused, in JSON",
+    Command("merge of sets with withdrawn images, which is refused, in JSON",
             "merge OUT SETA SETN SETU SETW --uid 2.25.0 --strict --json"),
     Command("list of two images at length, in JSON", "list --long --json SETA"),
     Command("check of two images, in JSON", "check --json SETA"),
