@@ -1,24 +1,94 @@
-ghost use Rattle.std.specs.Prelude.{◌≡◌, ℕ, List};
+ghost use Rattle.std.specs.Prelude.{◌≡◌, ℕ, List, IfSome};
 ghost use Rattle.sha2.specs.Sha256.{sha256};
-ghost use Rattle.dd_slots.specs.Slots.{IsSlotOf};
+ghost use Rattle.dd_slots.specs.Slots.{IsSlotOf, lane_count};
 
 use crate::slot::Slot;
-use sha256_lanes::digest4;
+use sha256_lanes::{Digests, Four, digest4, digest8};
 
-/// Computes the SHA-256 of each of four slots: side by side where all keep their bytes, else one by one.
-pub fn digest_slots(
-    a: &Slot,
-    b: &Slot,
-    c: &Slot,
-    d: &Slot,
-) -> ([u8; 32], [u8; 32], [u8; 32], [u8; 32])
-    ensures first { (bytes : List ℕ) → IsSlotOf a.now bytes → result.0 ≡ sha256 bytes }
-    ensures second { (bytes : List ℕ) → IsSlotOf b.now bytes → result.1 ≡ sha256 bytes }
-    ensures third { (bytes : List ℕ) → IsSlotOf c.now bytes → result.2 ≡ sha256 bytes }
-    ensures fourth { (bytes : List ℕ) → IsSlotOf d.now bytes → result.3 ≡ sha256 bytes }
-{
-    match (a.bytes(), b.bytes(), c.bytes(), d.bytes()) {
-        (Some(a), Some(b), Some(c), Some(d)) => digest4(a, b, c, d),
-        _ => (a.digest(), b.digest(), c.digest(), d.digest()),
+/// Says how many files are digested at once: four is fastest on x86-64-v2, eight on x86-64-v3.
+#[derive(Clone, Copy, Debug, PartialEq, Eq)]
+pub enum Lanes {
+    Four,
+    Eight,
+}
+
+impl Lanes {
+    /// Gives this number.
+    pub fn count(self) -> usize
+        ensures { result ≡ lane_count self }
+    {
+        match self {
+            Lanes::Four => 4,
+            Lanes::Eight => 8,
+        }
     }
+}
+
+/// Four of eight slots.
+pub type FourSlots<'a> = (&'a Slot, &'a Slot, &'a Slot, &'a Slot);
+
+/// Computes the SHA-256 of each of eight slots, whatever `lanes` is: side by side where all that are digested at once
+/// keep their bytes, else one by one.
+pub fn digest_slots(lanes: Lanes, front: FourSlots<'_>, back: FourSlots<'_>) -> (Digests, Digests)
+    ensures first { (bytes : List ℕ) → IsSlotOf front.entry.0.now bytes → result.0.0 ≡ sha256 bytes }
+    ensures second { (bytes : List ℕ) → IsSlotOf front.entry.1.now bytes → result.0.1 ≡ sha256 bytes }
+    ensures third { (bytes : List ℕ) → IsSlotOf front.entry.2.now bytes → result.0.2 ≡ sha256 bytes }
+    ensures fourth { (bytes : List ℕ) → IsSlotOf front.entry.3.now bytes → result.0.3 ≡ sha256 bytes }
+    ensures fifth { (bytes : List ℕ) → IsSlotOf back.entry.0.now bytes → result.1.0 ≡ sha256 bytes }
+    ensures sixth { (bytes : List ℕ) → IsSlotOf back.entry.1.now bytes → result.1.1 ≡ sha256 bytes }
+    ensures seventh { (bytes : List ℕ) → IsSlotOf back.entry.2.now bytes → result.1.2 ≡ sha256 bytes }
+    ensures eighth { (bytes : List ℕ) → IsSlotOf back.entry.3.now bytes → result.1.3 ≡ sha256 bytes }
+{
+    match lanes {
+        Lanes::Four => (digest_four(front), digest_four(back)),
+        Lanes::Eight => digest_eight(front, back),
+    }
+}
+
+fn digest_eight(front: FourSlots<'_>, back: FourSlots<'_>) -> (Digests, Digests)
+    ensures first { (bytes : List ℕ) → IsSlotOf front.entry.0.now bytes → result.0.0 ≡ sha256 bytes }
+    ensures second { (bytes : List ℕ) → IsSlotOf front.entry.1.now bytes → result.0.1 ≡ sha256 bytes }
+    ensures third { (bytes : List ℕ) → IsSlotOf front.entry.2.now bytes → result.0.2 ≡ sha256 bytes }
+    ensures fourth { (bytes : List ℕ) → IsSlotOf front.entry.3.now bytes → result.0.3 ≡ sha256 bytes }
+    ensures fifth { (bytes : List ℕ) → IsSlotOf back.entry.0.now bytes → result.1.0 ≡ sha256 bytes }
+    ensures sixth { (bytes : List ℕ) → IsSlotOf back.entry.1.now bytes → result.1.1 ≡ sha256 bytes }
+    ensures seventh { (bytes : List ℕ) → IsSlotOf back.entry.2.now bytes → result.1.2 ≡ sha256 bytes }
+    ensures eighth { (bytes : List ℕ) → IsSlotOf back.entry.3.now bytes → result.1.3 ≡ sha256 bytes }
+{
+    match (kept_by(front), kept_by(back)) {
+        (Some(front), Some(back)) => digest8(front, back),
+        _ => (digest_four(front), digest_four(back)),
+    }
+}
+
+fn digest_four(slots: FourSlots<'_>) -> Digests
+    ensures first { (bytes : List ℕ) → IsSlotOf slots.entry.0.now bytes → result.0 ≡ sha256 bytes }
+    ensures second { (bytes : List ℕ) → IsSlotOf slots.entry.1.now bytes → result.1 ≡ sha256 bytes }
+    ensures third { (bytes : List ℕ) → IsSlotOf slots.entry.2.now bytes → result.2 ≡ sha256 bytes }
+    ensures fourth { (bytes : List ℕ) → IsSlotOf slots.entry.3.now bytes → result.3 ≡ sha256 bytes }
+{
+    match kept_by(slots) {
+        Some((a, b, c, d)) => digest4(a, b, c, d),
+        None => (
+            slots.0.digest(),
+            slots.1.digest(),
+            slots.2.digest(),
+            slots.3.digest(),
+        ),
+    }
+}
+
+/// Gives the bytes of four slots. None where one has hashed them as they came.
+fn kept_by<'a>(slots: FourSlots<'a>) -> Option<Four<'a>>
+    ensures first { (bytes : List ℕ) → IsSlotOf slots.entry.0.now bytes → IfSome result (λ kept. kept.0.now ≡ bytes) }
+    ensures second { (bytes : List ℕ) → IsSlotOf slots.entry.1.now bytes → IfSome result (λ kept. kept.1.now ≡ bytes) }
+    ensures third { (bytes : List ℕ) → IsSlotOf slots.entry.2.now bytes → IfSome result (λ kept. kept.2.now ≡ bytes) }
+    ensures fourth { (bytes : List ℕ) → IsSlotOf slots.entry.3.now bytes → IfSome result (λ kept. kept.3.now ≡ bytes) }
+{
+    Some((
+        slots.0.bytes()?,
+        slots.1.bytes()?,
+        slots.2.bytes()?,
+        slots.3.bytes()?,
+    ))
 }

@@ -1,4 +1,5 @@
-mod Four
+mod Each
+mod Shifts
 mod Rounds
 mod Blocks
 mod Runs

@@ -30,8 +30,10 @@ unfolding hash_after
 HasRun_none m h out e = (λ _. e, λ few. absurd (omega (arith, length_padded m)))
 
 -- the block after i blocks; n is how many it has, and the digest comes out with the last
-pub HasRun_next : (m h out b next after : List ℕ) (i n : ℕ) → HasRun m i h out → n ≡ block_count m → (i < block_count m → b ≡ block m i)
-    → next ≡ compress h b → (IsTrue (eqb (i + 1) n) → after ≡ digest_bytes next 8) → (IsFalse (eqb (i + 1) n) → after ≡ out)
+pub HasRun_next : (m h out b next after : List ℕ) (i n : ℕ) → HasRun m i h out → n ≡ block_count m
+    → (i < block_count m → b ≡ block m i)
+    → next ≡ compress h b → (IsTrue (eqb (i + 1) n) → after ≡ digest_bytes next 8)
+    → (IsFalse (eqb (i + 1) n) → after ≡ out)
     → HasRun m (i + 1) next after
 unfolding sha256
 HasRun_next m h out b next after i n run count eb en last more =

@@ -1,45 +1,27 @@
-//! The compression of a block of each of four messages, one message in each lane (FIPS 180-4, 6.2.2).
+//! The compression of a block of each message, one message in each lane (FIPS 180-4, 6.2.2).
 
-ghost use Rattle.std.specs.Prelude.{◌≡◌, ◌+◌, ◌<◌, ◌≤◌, ℕ, List, length, slice_index};
+ghost use Rattle.std.specs.Prelude.{◌≡◌, ◌+◌, ◌<◌, ◌≤◌, ℕ, List, length};
 ghost use Rattle.sha2.specs.Sha256.{add_state, compress, rounds, schedule, word_at};
-ghost use Rattle.sha256_lanes.specs.Lanes.{IsScheduled, lane, of_four};
+ghost use Rattle.sha256_lanes.specs.Lanes.{IsScheduled, IsLoaded, lane};
 
 use crate::constants::K;
 use crate::functions::{add, big_sigma0, big_sigma1, ch, maj, small_sigma0, small_sigma1, splat};
-use std::simd::u32x4;
+use std::simd::Simd;
 
 /// Gives the word at this byte, high byte first.
 #[inline(always)]
-fn word_of(block: &[u8], at: usize) -> u32
+pub(crate) fn word_of(block: &[u8], at: usize) -> u32
     requires { at + 4 ≤ length block.now }
     ensures { result ≡ word_at block.now at }
 {
     u32::from_be_bytes([block[at], block[at + 1], block[at + 2], block[at + 3]])
 }
 
+/// Writes the message schedules after their first 16 words, which are those of the blocks (step 1).
 #[inline(always)]
-fn words_of(b0: &[u8], b1: &[u8], b2: &[u8], b3: &[u8], at: usize) -> u32x4
-    requires { (at + 4 ≤ length b0.now) × (at + 4 ≤ length b1.now)
-        × (at + 4 ≤ length b2.now) × (at + 4 ≤ length b3.now) }
-    ensures { (j : ℕ) → j < 4 → slice_index result j ≡ word_at (of_four b0.now b1.now b2.now b3.now j) at }
+fn prepare_schedule<const N: usize>(w: &mut [Simd<u32, N>; 64])
+    ensures { (j : ℕ) (b : List ℕ) → j < N → IsLoaded w.old j b → IsScheduled w.new j b }
 {
-    let w0 = word_of(b0, at);
-    let w1 = word_of(b1, at);
-    let w2 = word_of(b2, at);
-    let w3 = word_of(b3, at);
-    u32x4::from_array([w0, w1, w2, w3])
-}
-
-/// Writes the message schedules of four blocks (step 1).
-#[inline(always)]
-fn prepare_schedule(w: &mut [u32x4; 64], b0: &[u8], b1: &[u8], b2: &[u8], b3: &[u8])
-    requires { (length b0.now ≡ 64) × (length b1.now ≡ 64) × (length b2.now ≡ 64) × (length b3.now ≡ 64) }
-    ensures { (j : ℕ) → j < 4 → IsScheduled w.new j (of_four b0.now b1.now b2.now b3.now j) }
-{
-    'first: for t in 0..16 {
-        let word = words_of(b0, b1, b2, b3, 4 * t);
-        w[t] = word;
-    }
     'next: for t in 16..64 {
         let s1 = small_sigma1(w[t - 2]);
         let word = add(s1, w[t - 7]);
@@ -52,9 +34,13 @@ fn prepare_schedule(w: &mut [u32x4; 64], b0: &[u8], b1: &[u8], b2: &[u8], b3: &[
 
 /// Makes round `t` on the working variables (step 3).
 #[inline(always)]
-fn round(w: &[u32x4; 64], v: [u32x4; 8], t: usize) -> [u32x4; 8]
+fn round<const N: usize>(
+    w: &[Simd<u32, N>; 64],
+    v: [Simd<u32, N>; 8],
+    t: usize,
+) -> [Simd<u32, N>; 8]
     requires { t < 64 }
-    ensures { (j : ℕ) (b h : List ℕ) → j < 4 → IsScheduled w.now j b → lane j v ≡ rounds h (schedule b 48) t
+    ensures { (j : ℕ) (b h : List ℕ) → j < N → IsScheduled w.now j b → lane j v.entry ≡ rounds h (schedule b 48) t
         → lane j result ≡ rounds h (schedule b 48) (t + 1) }
 {
     let [a, b, c, d, e, f, g, h] = v;
@@ -70,13 +56,26 @@ fn round(w: &[u32x4; 64], v: [u32x4; 8], t: usize) -> [u32x4; 8]
     let t2 = add(s0, most);
     let first = add(t1, t2);
     let fifth = add(d, t1);
-    [first, a, b, c, fifth, e, f, g]
+    let mut next = v;
+    next[0] = first;
+    next[1] = a;
+    next[2] = b;
+    next[3] = c;
+    next[4] = fifth;
+    next[5] = e;
+    next[6] = f;
+    next[7] = g;
+    next
 }
 
 #[inline(always)]
-fn eight_rounds(w: &[u32x4; 64], v: [u32x4; 8], t: usize) -> [u32x4; 8]
+fn eight_rounds<const N: usize>(
+    w: &[Simd<u32, N>; 64],
+    v: [Simd<u32, N>; 8],
+    t: usize,
+) -> [Simd<u32, N>; 8]
     requires { t + 8 ≤ 64 }
-    ensures { (j : ℕ) (b h : List ℕ) → j < 4 → IsScheduled w.now j b → lane j v ≡ rounds h (schedule b 48) t
+    ensures { (j : ℕ) (b h : List ℕ) → j < N → IsScheduled w.now j b → lane j v.entry ≡ rounds h (schedule b 48) t
         → lane j result ≡ rounds h (schedule b 48) (t + 8) }
 {
     let v = round(w, v, t);
@@ -91,9 +90,9 @@ fn eight_rounds(w: &[u32x4; 64], v: [u32x4; 8], t: usize) -> [u32x4; 8]
 
 /// Unrolled, which is faster than a loop.
 #[inline(always)]
-fn all_rounds(w: &[u32x4; 64], h: [u32x4; 8]) -> [u32x4; 8]
-    ensures { (j : ℕ) (b : List ℕ) → j < 4 → IsScheduled w.now j b
-        → lane j result ≡ rounds (lane j h) (schedule b 48) 64 }
+fn all_rounds<const N: usize>(w: &[Simd<u32, N>; 64], h: [Simd<u32, N>; 8]) -> [Simd<u32, N>; 8]
+    ensures { (j : ℕ) (b : List ℕ) → j < N → IsScheduled w.now j b
+        → lane j result ≡ rounds (lane j h.entry) (schedule b 48) 64 }
 {
     let v = eight_rounds(w, h, 0);
     let v = eight_rounds(w, v, 8);
@@ -107,8 +106,8 @@ fn all_rounds(w: &[u32x4; 64], h: [u32x4; 8]) -> [u32x4; 8]
 
 /// Adds the working variables to the hash value (step 4).
 #[inline(always)]
-fn add_state(h: [u32x4; 8], v: [u32x4; 8]) -> [u32x4; 8]
-    ensures { (j : ℕ) → j < 4 → lane j result ≡ add_state (lane j h) (lane j v) }
+fn add_state<const N: usize>(h: [Simd<u32, N>; 8], v: [Simd<u32, N>; 8]) -> [Simd<u32, N>; 8]
+    ensures { (j : ℕ) → j < N → lane j result ≡ add_state (lane j h.entry) (lane j v.entry) }
 {
     let [h0, h1, h2, h3, h4, h5, h6, h7] = h;
     let [a, b, c, d, e, f, g, h] = v;
@@ -120,18 +119,26 @@ fn add_state(h: [u32x4; 8], v: [u32x4; 8]) -> [u32x4; 8]
     let s5 = add(h5, f);
     let s6 = add(h6, g);
     let s7 = add(h7, h);
-    [s0, s1, s2, s3, s4, s5, s6, s7]
+    let mut sum = v;
+    sum[0] = s0;
+    sum[1] = s1;
+    sum[2] = s2;
+    sum[3] = s3;
+    sum[4] = s4;
+    sum[5] = s5;
+    sum[6] = s6;
+    sum[7] = s7;
+    sum
 }
 
-/// Takes a block of each message into its hash value.
-pub(crate) fn compress4(hash: &mut [u32x4; 8], b0: &[u8], b1: &[u8], b2: &[u8], b3: &[u8])
-    requires { (length b0.now ≡ 64) × (length b1.now ≡ 64) × (length b2.now ≡ 64) × (length b3.now ≡ 64) }
-    ensures { (j : ℕ) → j < 4
-        → lane j hash.new ≡ compress (lane j hash.old) (of_four b0.now b1.now b2.now b3.now j) }
+/// Takes the block of each message that is loaded into its hash value.
+#[inline(always)]
+pub(crate) fn compress<const N: usize>(hash: &mut [Simd<u32, N>; 8], w: &mut [Simd<u32, N>; 64])
+    ensures { (j : ℕ) (b : List ℕ) → j < N → IsLoaded w.old j b
+        → lane j hash.new ≡ compress (lane j hash.old) b }
 {
-    let mut w = [u32x4::splat(0); 64];
-    prepare_schedule(&mut w, b0, b1, b2, b3);
+    prepare_schedule(w);
     let before = *hash;
-    let v = all_rounds(&w, before);
+    let v = all_rounds(w, before);
     *hash = add_state(before, v);
 }

@@ -1,9 +1,9 @@
-//! Digests of four messages at once: the examples of FIPS 180-4, and the digests of `sha2` at lengths round the edges
-//! of blocks.
+//! Digests of four and of eight messages at once: the examples of FIPS 180-4, and the digests of `sha2` at lengths
+//! round the edges of blocks.
 
 use dd_vectors::{ask_all, bytes_of, claim_all};
 use sha2::{Digest, Sha256};
-use sha256_lanes::digest4;
+use sha256_lanes::{Digests, digest4, digest8};
 use std::alloc::Global;
 use std::test::Fail;
 
@@ -31,14 +31,18 @@ const LENGTHS: &str = "\
 4096 0 1 64
 3 120 0 5000";
 
-/// The digest that all four places give of one message.
+/// The digest that all places give of one message, those of four and those of eight.
 fn digest_of(alloc: Global, question: &str) -> Result<String, Fail> {
     let message = bytes_of(alloc, question)?;
-    let (a, b, c, d) = digest4(&message, &message, &message, &message);
-    if a[..] != b[..] || a[..] != c[..] || a[..] != d[..] {
-        return Err("the places differ".into());
+    let bytes = message.as_slice();
+    let four = digest4(bytes, bytes, bytes, bytes);
+    let (front, back) = digest8((bytes, bytes, bytes, bytes), (bytes, bytes, bytes, bytes));
+    for (a, b, c, d) in [four, front, back] {
+        if [a, b, c, d] != [four.0; 4] {
+            return Err("the places differ".into());
+        }
     }
-    Ok(hex::encode(alloc, a)?)
+    Ok(hex::encode(alloc, four.0)?)
 }
 
 /// A message with this length, which is another one for each seed.
@@ -50,19 +54,47 @@ fn message(alloc: Global, len: u32, seed: u8) -> Result<Vec<u8>, Fail> {
     Ok(bytes)
 }
 
-/// Are four messages with these lengths digested as by `sha2`?
+/// Four messages.
+type Messages = (Vec<u8>, Vec<u8>, Vec<u8>, Vec<u8>);
+
+/// Messages of these lengths, which are others for each seed.
+fn messages(alloc: Global, lengths: (u32, u32, u32, u32), seed: u8) -> Result<Messages, Fail> {
+    Ok((
+        message(alloc, lengths.0, seed)?,
+        message(alloc, lengths.1, seed ^ 1)?,
+        message(alloc, lengths.2, seed ^ 2)?,
+        message(alloc, lengths.3, seed ^ 3)?,
+    ))
+}
+
+/// Are these the digests of `sha2`?
+fn are_right(found: Digests, messages: &Messages) -> bool {
+    found.0 == Sha256::digest(messages.0.as_slice())
+        && found.1 == Sha256::digest(messages.1.as_slice())
+        && found.2 == Sha256::digest(messages.2.as_slice())
+        && found.3 == Sha256::digest(messages.3.as_slice())
+}
+
+/// Are messages digested as by `sha2`, four of these lengths, and eight of these and then of these from the last to the
+/// first?
 fn are_digests(alloc: Global, a: u32, b: u32, c: u32, d: u32) -> Result<bool, Fail> {
-    let a = message(alloc, a, 1)?;
-    let b = message(alloc, b, 2)?;
-    let c = message(alloc, c, 3)?;
-    let d = message(alloc, d, 4)?;
-    let found = digest4(&a, &b, &c, &d);
-    Ok(
-        found.0[..] == Sha256::digest(&a)[..]
-            && found.1[..] == Sha256::digest(&b)[..]
-            && found.2[..] == Sha256::digest(&c)[..]
-            && found.3[..] == Sha256::digest(&d)[..],
-    )
+    let first = messages(alloc, (a, b, c, d), 0)?;
+    let last = messages(alloc, (d, c, b, a), 4)?;
+    let front = (
+        first.0.as_slice(),
+        first.1.as_slice(),
+        first.2.as_slice(),
+        first.3.as_slice(),
+    );
+    let back = (
+        last.0.as_slice(),
+        last.1.as_slice(),
+        last.2.as_slice(),
+        last.3.as_slice(),
+    );
+    let four = digest4(front.0, front.1, front.2, front.3);
+    let eight = digest8(front, back);
+    Ok(are_right(four, &first) && are_right(eight.0, &first) && are_right(eight.1, &last))
 }
 
 /// Are they, for the four lengths of this line?

@@ -1,4 +1,4 @@
-use dd_slots::{Slot, digest_slots};
+use dd_slots::{Lanes, Slot, digest_slots};
 use dd_vectors::{ask_all, require};
 use std::alloc::Global;
 use std::test::Fail;
@@ -44,15 +44,22 @@ fn a_slot_keeps_8_mib(rt: HostRuntime) -> Result<(), Fail> {
     require(bytes.len() == 8_388_608, "the slot has all bytes")
 }
 
+/// The digests of slots in this order and in the other, in each way to digest.
 fn four(alloc: Global, question: &str) -> Result<String, Fail> {
     let (a, rest) = question.split_once(' ').ok_or("no second")?;
     let (b, rest) = rest.split_once(' ').ok_or("no third")?;
     let (c, d) = rest.split_once(' ').ok_or("no fourth")?;
     let (a, b) = (slot_of_zeros(alloc, a)?, slot_of_zeros(alloc, b)?);
     let (c, d) = (slot_of_zeros(alloc, c)?, slot_of_zeros(alloc, d)?);
-    let (first, second, third, fourth) = digest_slots(&a, &b, &c, &d);
-    let mut text = hex::encode(alloc, first)?;
-    for digest in [second, third, fourth] {
+    let (front, back) = digest_slots(Lanes::Four, (&a, &b, &c, &d), (&d, &c, &b, &a));
+    require(
+        back == (front.3, front.2, front.1, front.0),
+        "the order is another",
+    )?;
+    let eight = digest_slots(Lanes::Eight, (&a, &b, &c, &d), (&d, &c, &b, &a));
+    require(eight == (front, back), "eight have other digests")?;
+    let mut text = hex::encode(alloc, front.0)?;
+    for digest in [front.1, front.2, front.3] {
         text.push_str(" ")?;
         text.push_str(&hex::encode(alloc, digest)?)?;
     }
@@ -60,6 +67,34 @@ fn four(alloc: Global, question: &str) -> Result<String, Fail> {
 }
 
 #[test]
-fn four_slots_have_their_own_digests(rt: HostRuntime) -> Result<(), Fail> {
+fn slots_have_their_own_digests(rt: HostRuntime) -> Result<(), Fail> {
     ask_all(rt.alloc(), FOUR, four)
+}
+
+#[test]
+fn a_slot_that_hashes_leaves_others_their_digests(rt: HostRuntime) -> Result<(), Fail> {
+    let (long, short) = (
+        slot_of_zeros(rt.alloc(), "8388609")?,
+        slot_of_zeros(rt.alloc(), "1")?,
+    );
+    require(long.bytes().is_none(), "the slot keeps its bytes")?;
+    let (one, other) = (long.digest(), short.digest());
+    for lanes in [Lanes::Four, Lanes::Eight] {
+        let found = digest_slots(
+            lanes,
+            (&short, &short, &short, &short),
+            (&short, &long, &short, &short),
+        );
+        require(
+            found == ((other, other, other, other), (other, one, other, other)),
+            "a digest is another",
+        )?;
+    }
+    Ok(())
+}
+
+#[test]
+fn lanes_have_their_counts(_rt: HostRuntime) -> Result<(), Fail> {
+    require(Lanes::Four.count() == 4, "not four")?;
+    require(Lanes::Eight.count() == 8, "not eight")
 }

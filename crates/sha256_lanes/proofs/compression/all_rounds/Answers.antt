@@ -5,7 +5,7 @@ use Rattle.sha256_lanes.proofs.compression.all_rounds.Goals as goal
 
 pub returns : goal.returns
 unfolding rounds
-returns c = λ j b low is_scheduled.
+returns g c = λ j b low is_scheduled.
     let h = lane j c.args.h in
     let s1 = c.eight_rounds-v.ensures j b h low is_scheduled refl in
     let s2 = c.eight_rounds-v-2.ensures j b h low is_scheduled s1 in

@@ -3,7 +3,7 @@ use Rattle.sha2.specs.Sha256.{rounds, schedule}
 use Rattle.sha256_lanes.proofs.compression.eight_rounds.Goals as goal
 
 pub returns : goal.returns
-returns c = λ j b h low is_scheduled held.
+returns g c = λ j b h low is_scheduled held.
     let after = rounds h (schedule b 48) in
     let s1 = c.round-v.ensures j b h low is_scheduled held in
     let s2 = c.round-v-2.ensures j b h low is_scheduled s1 in

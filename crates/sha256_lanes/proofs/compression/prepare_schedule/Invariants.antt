@@ -1,11 +1,9 @@
-use Rattle.std.proofs.Common.{◌≡◌, ℕ, ◌<◌, ◌*◌, length, slice_index}
-use Rattle.sha2.specs.Sha256.{schedule, word_at}
-use Rattle.sha256_lanes.specs.Lanes.{lane_at, of_four}
+use Rattle.std.proofs.Common.{◌≡◌, ℕ, ◌<◌, List, length, slice_index}
+use Rattle.sha2.specs.Sha256.{schedule}
+use Rattle.sha256_lanes.specs.Lanes.{IsLoaded, lane_at}
 use Rattle.sha256_lanes.proofs.compression.prepare_schedule.Given as goal
 
-abbrev pub invariant-first : goal.invariant-first
-invariant-first l = (length l.w ≡ 64) × ((k j : ℕ) → k < l.t → j < 4 → lane_at l.w k j ≡ word_at (of_four l.b0 l.b1 l.b2 l.b3 j) (4 * k))
-
 abbrev pub invariant-next : goal.invariant-next
-invariant-next l = (length l.w ≡ 64)
-    × ((k j : ℕ) → k < l.t → j < 4 → lane_at l.w k j ≡ slice_index (schedule (of_four l.b0 l.b1 l.b2 l.b3 j) 48) k)
+invariant-next g l = (length l.w ≡ 64)
+    × ((j : ℕ) (b : List ℕ) → j < g.row.N → IsLoaded l.fn.w j b
+    → (k : ℕ) → k < l.t → lane_at l.w k j ≡ slice_index (schedule b 48) k)

@@ -4,4 +4,4 @@ use Rattle.sha256_lanes.specs.Lanes.{lane}
 use Rattle.sha256_lanes.proofs.digest.end_lane.Given as goal
 
 abbrev pub invariant-words : goal.invariant-words
-invariant-words l = (length l.digest ≡ 32) × (take (4 * l.k) l.digest ≡ digest_bytes (lane l.j l.hash) l.k)
+invariant-words g l = (length l.digest ≡ 32) × (take (4 * l.k) l.digest ≡ digest_bytes (lane l.j l.hash) l.k)

@@ -1,5 +1,13 @@
-use Rattle.sha256_lanes.proofs.Four.{shifts_rotate}
+use Rattle.std.proofs.Common.{arith}
+use Rattle.std.proofs.lemmas.Simd.{shifts_fit_splat}
+use Rattle.sha256_lanes.proofs.Shifts.{shifts_rotate}
 use Rattle.sha256_lanes.proofs.functions.rotate_right.Goals as goal
 
+pub overflow_shr-result : goal.overflow_shr-result
+overflow_shr-result g c = shifts_fit_splat 32 c.args.x g.row.N c.args.n c.requires.1
+
+pub overflow_shl-result : goal.overflow_shl-result
+overflow_shl-result g c = shifts_fit_splat 32 c.args.x g.row.N _ (omega (arith, c.requires.0))
+
 pub returns : goal.returns
-returns c = shifts_rotate c.args.n c.requires.0 c.requires.1 c.args.x c.fits-x.0
+returns g c = shifts_rotate c.args.n g.row.N c.requires.0 c.requires.1 c.args.x c.fits-x.0

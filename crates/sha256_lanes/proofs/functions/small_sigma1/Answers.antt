@@ -2,5 +2,11 @@ use Rattle.std.proofs.Common.{refl}
 use Rattle.sha256_lanes.proofs.functions.small_sigma1.Goals as goal
 
 pub returns : goal.returns
-returns c j low =
-    rw (c.xor.ensures j low, c.xor-both.ensures j low, c.rotate_right-near.ensures j low, c.rotate_right-far.ensures j low, c.shift_right-rest.ensures j low) refl
+returns g c j low =
+    rw (
+      c.xor.ensures j low,
+      c.xor-both.ensures j low,
+      c.rotate_right-near.ensures j low,
+      c.rotate_right-far.ensures j low,
+      c.shift_right-rest.ensures j low,
+    ) refl

@@ -6,7 +6,8 @@ pub returns-then-i-whole-clause-block : goal.returns-then-i-whole-clause-block
 returns-then-i-whole-clause-block c = λ _. block_whole c.args.message.now c.args.i (omega arith)
 
 pub returns-then-i-whole-2-clause-block : goal.returns-then-i-whole-2-clause-block
-returns-then-i-whole-2-clause-block c = λ _. block_first c.args.tail.now c.args.message.now c.args.i c.requires (omega arith)
+returns-then-i-whole-2-clause-block c =
+    λ _. block_first c.args.tail.now c.args.message.now c.args.i c.requires (omega arith)
 
 pub returns-else-i-whole-2-clause-block : goal.returns-else-i-whole-2-clause-block
 returns-else-i-whole-2-clause-block c = λ high.

@@ -12,5 +12,7 @@ returns c =
       | then-left-lt56 w ↦ omega (arith, w.end-is, w.if-left-lt56)
       | else-left-lt56 w ↦ omega (arith, w.end-is, w.if-left-lt56)
     ] in
-    tail_made c.args.message.now _ c.copy_from_slice.new.self c.copy_from_slice-2.new.self left end _ refl refl sized (omega arith)
-    (c.copy_from_slice.ensures.after ∙ take_rest c.args.message.now _) (c.copy_from_slice-2.ensures.after ∙ c.to_be_bytes.ensures)
+    tail_made c.args.message.now _ c.copy_from_slice.new.self c.copy_from_slice-2.new.self left end _ refl refl sized
+    (omega arith)
+    (c.copy_from_slice.ensures.after ∙ take_rest c.args.message.now _)
+    (c.copy_from_slice-2.ensures.after ∙ c.to_be_bytes.ensures)

@@ -1,7 +1,7 @@
 use Rattle.std.proofs.Common.{ℕ, ◌<◌}
 use Rattle.sha256_lanes.specs.Lanes.{lane, of_four}
 use Rattle.sha256_lanes.proofs.Runs.{HasRun}
-use Rattle.sha256_lanes.proofs.digest.digest_in_lanes.Given as goal
+use Rattle.sha256_lanes.proofs.four.digest_in_lanes.Given as goal
 
 abbrev pub invariant-run : goal.invariant-run
 invariant-run l = (j : ℕ) → j < 4
