@@ -242,7 +242,7 @@ holds_first read batch h none = record {
 }
 
 -- the slot of the next source is of no version that is held
-pub holds_next : (answers : List Answer) (read : Sources) (batch : Batch) (next : Slot) → batch.used < 4
+pub holds_next : (answers : List Answer) (read : Sources) (batch : Batch) (next : Slot) → batch.used < 8
     → HoldsOpen answers read batch → HoldsOpen answers read (record batch { next = next })
 holds_next answers read batch next room h = record {
   versions = other_next batch read.versions.items _ next room h.versions;

@@ -50,7 +50,8 @@ pair_is (Some pair) e a b apart is =
 refusal_conflict : (label : Label) (limits : Limits) (m : List Parts) (w : List (List ℕ)) (a b : List ℕ)
     → refusal label limits m w ≡ Some (Conflict a b) → first_conflict m ≡ Some (a, b)
 refusal_conflict label limits m w a b is =
-    pair_is (first_conflict m) (excess label limits (harmonised m) w) a b (excess_apart label limits (harmonised m) w a b) is
+    pair_is (first_conflict m) (excess label limits (harmonised m) w) a b
+    (excess_apart label limits (harmonised m) w a b) is
 
 derivation_conflict : (uid : Option (List ℕ)) (id : List ℕ) (limits : Limits) (m : List Parts) (w : List (List ℕ))
     (a b : List ℕ) → derivation uid id limits m w ≡ Some (Conflict a b) → first_conflict m ≡ Some (a, b)

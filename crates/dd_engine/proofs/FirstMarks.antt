@@ -75,7 +75,8 @@ pub first_found : {T : Type 0} (marks : List (Mark T)) (t : FileKey) (i : ℕ) �
     → filter (λ file. is_one file t) (map (λ mark. key_of mark) marks) ≢ []
     → IsPartitionPoint (λ mark. is_lt (file_cmp (key_of mark) t) ≡ true)
     (λ mark. is_lt (file_cmp (key_of mark) t) ≡ false) marks i
-    → (i < length marks) × ((d : Mark T) → Some (get_or marks i d).origin ≡ found (map (λ mark. mark_view mark) marks) t)
+    → (i < length marks)
+    × ((d : Mark T) → Some (get_or marks i d).origin ≡ found (map (λ mark. mark_view mark) marks) t)
 first_found marks t i order some point =
     let held = place_of marks t some in
     let k = held.0 in

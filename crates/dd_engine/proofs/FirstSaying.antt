@@ -38,8 +38,8 @@ first_place planned listings gathered at pick gathers first read = (
   subst (λ (versions : List Parts). IsFirstFiled planned versions at) gathers.versions first,
   ap (λ (places : List (ℕ × List ℕ)). slice_get places at) (sym gathers.origins)
       ∙ slice_get-map (λ pick. pick_view pick) gathered.origins.items at
-      ∙ ap (option_map (λ pick. pick_view pick)) (slice_get_read gathered.origins.items (length gathered.origins.items) at
-      pick refl (within listings gathered at gathers first.here.within) read),
+      ∙ ap (option_map (λ pick. pick_view pick)) (slice_get_read gathered.origins.items
+      (length gathered.origins.items) at pick refl (within listings gathered at gathers first.here.within) read),
 ) where
   within : (listings : List SetListing) (gathered : Gathered) (at : ℕ) → GathersOf [] listings gathered
       → at < length gathered.versions.items → at < length gathered.origins.items

@@ -1,6 +1,6 @@
 -- The first files of kept versions, and the files of the images of a plan.
-use Rattle.std.specs.Prelude.{◌≡◌, ◌≢◌, ◌+◌, ◌<◌, Bool, ℕ, zero, suc, true, false, List, [], ◌∷◌, ◌++◌, length, map, filter}
-use Rattle.std.specs.Prelude.{get_or, take, Option, Some, slice_get}
+use Rattle.std.specs.Prelude.{◌≡◌, ◌≢◌, ◌+◌, ◌<◌, Bool, ℕ, zero, suc, true, false, List, [], ◌∷◌, ◌++◌, length, map}
+use Rattle.std.specs.Prelude.{filter, get_or, take, Option, Some, slice_get}
 use Rattle.std.specs.List.{zip}
 use Rattle.std.specs.List.Sorted.{IsStable}
 use Rattle.std.proofs.Common.{refl, sym, ◌∙◌, ap, subst, arith, inl, inr}
@@ -17,8 +17,8 @@ use Rattle.dd_elem.specs.Ordered.{bytes_cmp}
 use Rattle.dd_version.specs.declared.parts.Parts.{Parts}
 use Rattle.dd_layout.specs.declared.record.PlanRecord.{PlanRecord}
 use Rattle.dd_engine.specs.declared.marks.Mark.{Mark}
-use Rattle.dd_engine.specs.Picking.{AreHeld, ArePicked, FileKey, file_of, files_of, found, found_by, is_image, is_one, key_of}
-use Rattle.dd_engine.specs.Picking.{mark_cmp, mark_view, taken_of}
+use Rattle.dd_engine.specs.Picking.{AreHeld, ArePicked, FileKey, file_of, files_of, found, found_by, is_image, is_one}
+use Rattle.dd_engine.specs.Picking.{key_of, mark_cmp, mark_view, taken_of}
 use Rattle.dd_engine.proofs.FirstMarks.{files_stay, files_viewed}
 use Rattle.dd_engine.proofs.ImagePicks.{each_kept, held_too}
 use Rattle.dd_engine.proofs.PicksWithin.{unmapped}
@@ -80,7 +80,8 @@ pub mark_held : {T V : Type 0} (files : List (T × FileKey)) (xs ys : List (Mark
 mark_held files xs ys m list view i item held marks stable is below read =
     let all : AreHeld (map (λ mark. key_of mark) ys) (map view list) =
     subst (λ l. AreHeld (map (λ mark. key_of mark) ys) l) (sym is)
-    (held_too _ _ m (subst (λ l. AreHeld l m) (sym (files_viewed xs ∙ ap (map (λ file. file.1)) marks)) held) (files_stay xs ys stable)) in
+    (held_too _ _ m (subst (λ l. AreHeld l m) (sym (files_viewed xs ∙ ap (map (λ file. file.1)) marks)) held)
+    (files_stay xs ys stable)) in
     subst (λ v. filter (λ file. is_one file (file_of (view v))) (map (λ mark. key_of mark) ys) ≢ []) (sym read)
     (unmapped (λ v. filter (λ file. is_one file (file_of v)) (map (λ mark. key_of mark) ys) ≢ []) view list all i item
     below)

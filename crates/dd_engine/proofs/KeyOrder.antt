@@ -1,6 +1,7 @@
 -- Elements in the order of their keys: how keys compare, and where a search for a key ends. A stable sort keeps the
 -- elements of a key in their order.
-use Rattle.std.specs.Prelude.{◌≡◌, ◌⊎◌, ◌&&◌, ◌<◌, ◌≤◌, ℕ, Bool, true, false, not, List, [], ◌∷◌, length, filter, get_or}
+use Rattle.std.specs.Prelude.{◌≡◌, ◌⊎◌, ◌&&◌, ◌<◌, ◌≤◌, ℕ, Bool, true, false, not, List, [], ◌∷◌, length, filter}
+use Rattle.std.specs.Prelude.{get_or}
 use Rattle.std.specs.Cmp.{IsTotalOrder}
 use Rattle.std.specs.List.Sorted.{IsPartitionedBy, IsSorted, IsStable, ties}
 use Rattle.std.specs.Ordering.{is_eq, is_lt, ordering_reverse}

@@ -78,7 +78,8 @@ module _ (given : List (List ℕ)) (listings : List SetListing) (basis : Basis P
       × ConflictsIn given listings (plan_fault fault) conflict
   refused_for fault conflict is = (
     sym (ap₂ (λ (m : List Parts) (u : List (List ℕ)). refusal_for choice limits m u) kept w) ∙ is.refused,
-    conflicts given listings basis.versions.items basis.origins.items (kept_in basis) fault conflict placed kept is.files,
+    conflicts given listings basis.versions.items basis.origins.items (kept_in basis) fault conflict placed
+        kept is.files,
   )
 
   something : (uids : List (List ℕ)) (sets : List SetListing)

@@ -159,7 +159,8 @@ pub all_known : (versions : List Parts) (uids : List (List ℕ))
     → map (λ version. (None, version.instance)) versions ++ map (λ uid. (None, uid)) uids
     ≡ map {B = Withdrawal} (λ uid. (None, uid)) (map (λ version. version.instance) versions ++ uids)
 all_known [] uids = refl
-all_known (version ∷ versions) uids = ap (λ (l : List Withdrawal). (None, version.instance) ∷ l) (all_known versions uids)
+all_known (version ∷ versions) uids =
+    ap (λ (l : List Withdrawal). (None, version.instance) ∷ l) (all_known versions uids)
 
 -- of one given UID more
 pub given_more : (given : List (List ℕ)) (i : ℕ) (uid : List ℕ) → i < length given → uid ≡ get_or given i uid

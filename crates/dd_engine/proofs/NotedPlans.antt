@@ -35,7 +35,8 @@ leaves_out answers zips m notes best is are =
 
 -- ---- refusals
 
-no_conflict : (conflict : Option (ConflictingFiles ℕ)) → option_map {U = ℕ × ℕ} (λ conflict. (conflict.one, conflict.other)) conflict ≡ None
+no_conflict : (conflict : Option (ConflictingFiles ℕ))
+    → option_map {U = ℕ × ℕ} (λ conflict. (conflict.one, conflict.other)) conflict ≡ None
     → conflict ≡ None
 no_conflict None is = refl
 no_conflict (Some conflict) is = cc
@@ -57,7 +58,8 @@ conflicts answers zips m (plans.Conflict one other) conflict best is are =
     conflict_too answers zips m (plans.Conflict one other) conflict best is are
 conflicts answers zips m (plans.TooMany level) conflict best is are =
     conflict_too answers zips m (plans.TooMany level) conflict best is are
-conflicts answers zips m plans.TooLarge conflict best is are = conflict_too answers zips m plans.TooLarge conflict best is are
+conflicts answers zips m plans.TooLarge conflict best is are =
+    conflict_too answers zips m plans.TooLarge conflict best is are
 
 -- ---- the plan of the sources, where its basis is their versions and nothing is withdrawn
 

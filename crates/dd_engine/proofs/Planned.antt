@@ -33,7 +33,8 @@ module _ {T : Type 0} (basis : Basis T) (findings : Findings T) (harmony : Conte
 
     many : length findings.files.items ≡ length harmony.versions
     many =
-        many_files (λ v. found (files_of (filed_as_given basis)) (file_of v)) findings.files.items (kept_in basis) are.files
+        many_files (λ v. found (files_of (filed_as_given basis)) (file_of v)) findings.files.items (kept_in basis)
+        are.files
         ∙ sym (ap length in_harmony)
 
     pub many_planned : (choice : Choice) (plan : Layout)
@@ -45,7 +46,8 @@ module _ {T : Type 0} (basis : Basis T) (findings : Findings T) (harmony : Conte
         → plan ≡ layout_of (label_for choice (kept_in basis) harmony.withdrawn) (kept_in basis) harmony.withdrawn
         → plan ≡ layout_of (label_for choice (kept_in basis) basis.withdrawn) (kept_in basis) basis.withdrawn
     plan_is choice plan p =
-        p ∙ ap (λ (h : Contents). layout_of (label_for choice (kept_in basis) h.withdrawn) (kept_in basis) h.withdrawn) is
+        p
+        ∙ ap (λ (h : Contents). layout_of (label_for choice (kept_in basis) h.withdrawn) (kept_in basis) h.withdrawn) is
 
     pub refusal_is : (choice : Choice) (limits : Limits)
         → refusal_for choice limits (kept_in basis) basis.withdrawn
@@ -60,7 +62,8 @@ module _ {T : Type 0} (basis : Basis T) (findings : Findings T) (harmony : Conte
     picks_are choice plan picks p taken =
         picked (files_of (filed_as_given basis)) findings.files.items (kept_in basis)
         (records_of (label_for choice (kept_in basis) basis.withdrawn) (harmonised (kept_in basis))) picks are.files
-        (taken ∙ ap (λ (l : Layout). taken_of findings.files.items (records_of l.label l.versions)) (plan_is choice plan p))
+        (taken
+        ∙ ap (λ (l : Layout). taken_of findings.files.items (records_of l.label l.versions)) (plan_is choice plan p))
 
     -- ---- refusals
 
@@ -95,7 +98,8 @@ module _ {T : Type 0} (basis : Basis T) (findings : Findings T) (harmony : Conte
     -- memory was refused for the picks
     pub unpicked : findings.files.items ≢ [] → (basis.versions.items ≢ []) ⊎ (basis.withdrawn ≢ [])
     unpicked some = inl (λ none. some (nil_from_length findings.files.items
-        (many_files (λ v. found (files_of (filed_as_given basis)) (file_of v)) findings.files.items (kept_in basis) are.files
+        (many_files (λ v. found (files_of (filed_as_given basis)) (file_of v)) findings.files.items (kept_in basis)
+        are.files
         ∙ ap (λ s. length (harmonised (kept_of s basis.withdrawn))) none)))
 
 -- each kept version has a file

@@ -27,8 +27,8 @@ use Rattle.dd_engine.specs.MergeNotes.{ConflictsIn, FindsBoth, LeavesOut, NotesS
 use Rattle.dd_engine.specs.MergeSteps.{ArePlaced, plan_fault}
 use Rattle.dd_engine.specs.Merging.{Merges, SetListing, filed_in, held_in, numbered, pick_view}
 use Rattle.dd_engine.specs.Merging.{place_pick, places_in, versions_in, withdrawn_in}
-use Rattle.dd_engine.specs.Noting.{AreBelow, AreLeftOut, IsBelow, IsConflictOf, LeftAs, both, conflict_of, first_by, first_of}
-use Rattle.dd_engine.specs.Noting.{is_other, left_as, left_out}
+use Rattle.dd_engine.specs.Noting.{AreBelow, AreLeftOut, IsBelow, IsConflictOf, LeftAs, both, conflict_of, first_by}
+use Rattle.dd_engine.specs.Noting.{first_of, is_other, left_as, left_out}
 use Rattle.dd_engine.specs.Picking.{FileKey, file_of, files_of}
 use Rattle.dd_engine.proofs.BothFound.{best_among, best_rises, both_found}
 use Rattle.dd_engine.proofs.ImagePicks.{told_by, twice}
@@ -106,7 +106,8 @@ module _ {T U : Type 0} (f : T → U) where
   places_told None = refl
   places_told (Some conflict) = refl
 
-  pub conflict_told : (m : List Parts) (versions : List (T × Parts)) (fault : PlanFault) (conflict : Option (ConflictingFiles T))
+  pub conflict_told : (m : List Parts) (versions : List (T × Parts)) (fault : PlanFault)
+      (conflict : Option (ConflictingFiles T))
       → IsConflictOf (λ at. at) m versions fault conflict → IsConflictOf f m (map told versions) fault conflict
   conflict_told m versions fault conflict is =
       places_told conflict ∙ ap (option_map pair_told) is ∙ conflict_of_told m versions fault
@@ -146,14 +147,15 @@ leaves_out given listings versions picks m notes placed is are =
 -- ---- refusals
 
 no_conflict : (conflict : Option (ConflictingFiles Pick))
-    → option_map {U = (ℕ × List ℕ) × (ℕ × List ℕ)} (λ conflict. (pick_view conflict.one, pick_view conflict.other)) conflict ≡ None
-    → conflict ≡ None
+    → option_map {U = (ℕ × List ℕ) × (ℕ × List ℕ)} (λ conflict. (pick_view conflict.one, pick_view conflict.other))
+    conflict ≡ None → conflict ≡ None
 no_conflict None is = refl
 no_conflict (Some conflict) is = cc
 
 pub conflicts : (given : List (List ℕ)) (listings : List SetListing) (versions : List Parts) (picks : List Pick)
-    (m : List Parts) (fault : PlanFault) (conflict : Option (ConflictingFiles Pick)) → ArePlaced (numbered 0 listings) versions picks
-    → m ≡ (held_in given listings).versions → IsConflictOf (λ at. at) m (zip picks versions) fault conflict
+    (m : List Parts) (fault : PlanFault) (conflict : Option (ConflictingFiles Pick))
+    → ArePlaced (numbered 0 listings) versions picks → m ≡ (held_in given listings).versions
+    → IsConflictOf (λ at. at) m (zip picks versions) fault conflict
     → ConflictsIn given listings (plan_fault fault) conflict
 conflicts given listings versions picks m fault conflict placed is are = by fault here where
   here : IsConflictOf (λ pick. pick_view pick) (held_in given listings).versions (filed_in listings) fault conflict
@@ -184,7 +186,8 @@ filed_versions : (images : List (ℕ × Listed))
 filed_versions [] = refl
 filed_versions (image ∷ images) = ap (λ l. version_of image.1 ∷ l) (filed_versions images)
 
-none_below : (n : ℕ) (conflict : Option (ConflictingFiles Pick)) → conflict ≡ None → IsBelow (λ pick. pick.set) n conflict
+none_below : (n : ℕ) (conflict : Option (ConflictingFiles Pick)) → conflict ≡ None
+    → IsBelow (λ pick. pick.set) n conflict
 none_below n conflict is = subst (λ o. IsBelow (λ pick. pick.set) n o) (sym is) tt
 
 module _ (choice : Choice) (limits : Limits) (given sets : List (List ℕ)) where
@@ -221,8 +224,8 @@ module _ (choice : Choice) (limits : Limits) (given sets : List (List ℕ)) wher
       → IfErr result (λ noted. IsBelow (λ pick. pick.set) (length sets) noted.conflict)
   conflict_below (Ok noted) is = tt
   conflict_below (Err noted) is = by noted.fault noted.conflict is where
-    by : (fault : MergeFault) (conflict : Option (ConflictingFiles Pick)) → NotesSetsFault choice limits given sets fault conflict
-        → IsBelow (λ pick. pick.set) (length sets) conflict
+    by : (fault : MergeFault) (conflict : Option (ConflictingFiles Pick))
+        → NotesSetsFault choice limits given sets fault conflict → IsBelow (λ pick. pick.set) (length sets) conflict
     by (Dir at fault) conflict is = none_below (length sets) conflict is.1
     by (Own at fault) conflict is = none_below (length sets) conflict is.1
     by (Plan fault) conflict is =
@@ -236,13 +239,13 @@ module _ (choice : Choice) (limits : Limits) (given sets : List (List ℕ)) wher
       → NotesSets choice limits given sets result → IfErr result (λ noted. FindsBoth noted.fault noted.conflict)
   files_found (Ok noted) is = tt
   files_found (Err noted) is = by noted.fault noted.conflict is where
-    by : (fault : MergeFault) (conflict : Option (ConflictingFiles Pick)) → NotesSetsFault choice limits given sets fault conflict
-        → FindsBoth fault conflict
+    by : (fault : MergeFault) (conflict : Option (ConflictingFiles Pick))
+        → NotesSetsFault choice limits given sets fault conflict → FindsBoth fault conflict
     by (Plan (plans.Conflict a b)) conflict is =
         let s = versions_in (numbered 0 is.0) in
         let w = given ++ withdrawn_in is.0 in
-        both_found (λ pick. pick_view pick) (filed_in is.0) choice limits (best_of (left_of s w)) (uids_of w) a b conflict
-        (best_rises (left_of s w))
+        both_found (λ pick. pick_view pick) (filed_in is.0) choice limits (best_of (left_of s w)) (uids_of w) a b
+        conflict (best_rises (left_of s w))
         (λ v i. subst (λ l. Member v l) (sym (filed_versions (numbered 0 is.0)))
         (left_member s w v (best_among (left_of s w) v i))) is.2 is.3
     by (Plan (plans.TooMany level)) conflict is = tt

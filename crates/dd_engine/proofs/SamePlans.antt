@@ -37,7 +37,8 @@ same_plan choice m n w u one also =
 same_refusal : (label : Label) (limits : Limits) (m n : List Parts) (w : List (List ℕ))
     → harmonised m ≡ harmonised n → refusal label limits m w ≡ refusal label limits n w
 same_refusal label limits m n w one =
-    let conflicts : first_conflict m ≡ first_conflict n = sym (harmony_keeps_conflict m) ∙ ap first_conflict one ∙ harmony_keeps_conflict n in
+    let conflicts : first_conflict m ≡ first_conflict n =
+    sym (harmony_keeps_conflict m) ∙ ap first_conflict one ∙ harmony_keeps_conflict n in
     ap₂ (λ (c : Option (List ℕ × List ℕ)) (l : List Parts). conflict_or c (excess label limits l w)) conflicts one
 
 same_derivation : (uid : Option (List ℕ)) (id : List ℕ) (limits : Limits) (m n : List Parts) (w : List (List ℕ))

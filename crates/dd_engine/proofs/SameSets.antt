@@ -66,7 +66,8 @@ in_either v (x ∷ xs) ys (inr later) = by (in_either v xs ys later) where
 
 -- something that a listing gives is what one of the sets lists, and what a set lists is among what all give
 module _ {V : Type 0} (given : SetListing → List V)
-    (one_given : (set : List ℕ) (one other : SetListing) → IsOwn set one → IsOwn set other → given one ≡ given other) where
+    (one_given : (set : List ℕ) (one other : SetListing) → IsOwn set one → IsOwn set other
+    → given one ≡ given other) where
   abbrev all_given : List SetListing → List V
   all_given listings = together (map given listings)
 

@@ -1,6 +1,6 @@
 -- What is gathered of one set more, and which set is the first that fails.
-use Rattle.std.specs.Prelude.{◌≡◌, ◌≢◌, ◌<◌, ◌+◌, ℕ, suc, List, [], ◌∷◌, ◌++◌, length, map, take, get_or, Option, None, Some}
-use Rattle.std.specs.Prelude.{Ok, Err}
+use Rattle.std.specs.Prelude.{◌≡◌, ◌≢◌, ◌<◌, ◌+◌, ℕ, suc, List, [], ◌∷◌, ◌++◌, length, map, take, get_or, Option, None}
+use Rattle.std.specs.Prelude.{Some, Ok, Err}
 use Rattle.std.specs.Borrow.{Bor}
 use Rattle.std.proofs.Common.{refl, sym, ◌∙◌, ap, ap₂, inr, subst, arith, append_assoc}
 use Rattle.std.proofs.lemmas.List.{append-nil, map-append, take_more}
@@ -124,7 +124,8 @@ gathers_more given n listings last gathered many is =
     let all = listings ++ last ∷ [] in
     subst (λ c. Gathers (numbered 0 all) (withdrawals_in given all) c gathered)
     (sym (map-append (λ (listing : SetListing). listing.unreached) listings (last ∷ [])))
-    (subst (λ u. Gathers (numbered 0 all) u (map (λ listing. listing.unreached) listings ++ last.unreached ∷ []) gathered)
+    (subst (λ u. Gathers (numbered 0 all) u (map (λ listing. listing.unreached) listings ++ last.unreached ∷ [])
+    gathered)
     (sym (given_more given n listings last many))
     (subst (λ l. Gathers l (withdrawals_in given listings ++ map (λ uid. (Some n, uid)) last.withdrawn)
     (map (λ listing. listing.unreached) listings ++ last.unreached ∷ []) gathered)

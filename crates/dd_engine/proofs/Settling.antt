@@ -9,7 +9,7 @@ use Rattle.dd_slots.specs.Slots.{IsSlotOf}
 use Rattle.dd_slots.specs.declared.slot.Slot.{Slot}
 use Rattle.dd_version.specs.Copies.{with_digest}
 use Rattle.dd_version.specs.declared.parts.Parts.{Parts}
-use Rattle.dd_engine.specs.Batches.{IsOpen, Pending, digested, open_slots}
+use Rattle.dd_engine.specs.Batches.{IsOpen, Pending, digested, open_slots, slots_of}
 use Rattle.dd_engine.specs.declared.batch.Batch.{Batch}
 
 -- ---- some digests are set
@@ -48,7 +48,8 @@ one_more front versions items digests index at old new other so_far was is place
     ap (λ (all : List Parts). set all index new) so_far
     ∙ set-append_right front some (length front) index new refl within
     ∙ ap (λ (n : ℕ). front ++ set some n new) place
-    ∙ ap (λ (version : Parts). front ++ set some at version) (is ∙ ap (λ (version : Parts). with_digest version digest) got)
+    ∙ ap (λ (version : Parts). front ++ set some at version)
+    (is ∙ ap (λ (version : Parts). with_digest version digest) got)
     ∙ ap (λ (all : List Parts). front ++ all) (set_next versions digests at other here there)
     ∙ ap (λ (n : ℕ). front ++ with_digests versions (take n digests)) (sym (add-one at))
 
@@ -141,23 +142,24 @@ none_open batch versions closed none same = record {
   front = closed;
   pending = [];
   many = sym none;
-  slots = ap (λ (n : ℕ). take n (batch.first ∷ batch.second ∷ batch.third ∷ batch.next ∷ [])) none;
+  slots = ap (λ (n : ℕ). take n (slots_of batch)) none;
   all = same ∙ sym (append-nil closed);
   done = sym (append-nil closed);
 }
 
 -- the slot of the source that is read next is of no version, while there is room
-pub other_next : (batch : Batch) (versions closed : List Parts) (next : Slot) → batch.used < 4
+pub other_next : (batch : Batch) (versions closed : List Parts) (next : Slot) → batch.used < 8
     → IsOpen batch versions closed → IsOpen (record batch { next = next }) versions closed
 other_next batch versions closed next room h =
-    let three : List Slot = batch.first ∷ batch.second ∷ batch.third ∷ [] in
-    let within : batch.used ≤ length three = omega (arith, room) in
+    let seven : List Slot =
+    batch.first ∷ batch.second ∷ batch.third ∷ batch.fourth ∷ batch.fifth ∷ batch.sixth ∷ batch.seventh ∷ [] in
+    let within : batch.used ≤ length seven = omega (arith, room) in
     record {
       front = h.front;
       pending = h.pending;
       many = h.many;
-      slots = take-append-le batch.used three (next ∷ []) within
-          ∙ sym (take-append-le batch.used three (batch.next ∷ []) within) ∙ h.slots;
+      slots = take-append-le batch.used seven (next ∷ []) within
+          ∙ sym (take-append-le batch.used seven (batch.next ∷ []) within) ∙ h.slots;
       all = h.all;
       done = h.done;
     }

@@ -26,8 +26,8 @@ use Rattle.dd_engine.specs.Choosing.{label_for}
 use Rattle.dd_engine.specs.Indexed.{Indexes, IsWithin}
 use Rattle.dd_engine.specs.IndexNotes.{ConflictsIn, FindsBoth, NotesIndex}
 use Rattle.dd_engine.specs.Indexing.{Answer, accepted, accepted_from, best_of_sources, versions_of}
-use Rattle.dd_engine.specs.Noting.{AreBelow, AreLeftOut, IsBelow, IsConflictOf, LeftAs, both, first_by, first_of, is_other}
-use Rattle.dd_engine.specs.Noting.{left_as}
+use Rattle.dd_engine.specs.Noting.{AreBelow, AreLeftOut, IsBelow, IsConflictOf, LeftAs, both, first_by, first_of}
+use Rattle.dd_engine.specs.Noting.{is_other, left_as}
 use Rattle.dd_engine.specs.Picking.{FileKey, files_of, found_by}
 use Rattle.dd_engine.proofs.BothFound.{best_among, best_rises, both_found}
 use Rattle.dd_engine.proofs.ImagePicks.{holds_by, holds_of_picks}
@@ -96,7 +96,8 @@ module _ {T U : Type 0} (place : T → U) (P : U → Type 0) where
       let pair = same_Some (a, b) (one, other) is in
       (first one (ap (λ (p : U × U). Some p.0) pair), second other (ap (λ (p : U × U). Some p.1) pair))
 
-  pub holds_of_conflict : (m : List Parts) (versions : List (U × Parts)) (fault : PlanFault) (conflict : Option (ConflictingFiles T))
+  pub holds_of_conflict : (m : List Parts) (versions : List (U × Parts)) (fault : PlanFault)
+      (conflict : Option (ConflictingFiles T))
       → AllByRecursion (λ v. P v.0) versions → IsConflictOf place m versions fault conflict
       → IfSome conflict (λ conflict. P (place conflict.one) × P (place conflict.other))
   holds_of_conflict m versions fault None all is = tt

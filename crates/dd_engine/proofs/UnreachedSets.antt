@@ -1,6 +1,6 @@
 -- The sets with records that are not reached: what one set more adds.
-use Rattle.std.specs.Prelude.{◌≡◌, ◌<◌, ◌+◌, true, false, ℕ, suc, nat_lt, List, [], ◌∷◌, ◌++◌, length, map, filter, take}
-use Rattle.std.specs.Prelude.{get_or}
+use Rattle.std.specs.Prelude.{◌≡◌, ◌<◌, ◌+◌, true, false, ℕ, suc, nat_lt, List, [], ◌∷◌, ◌++◌, length, map, filter}
+use Rattle.std.specs.Prelude.{take, get_or}
 use Rattle.std.specs.List.{enumerate_from}
 use Rattle.std.proofs.Common.{refl, sym, ◌∙◌, ap, ap₂, arith}
 use Rattle.std.proofs.lemmas.List.{append-nil, length-take-le, map-append, take_more}

@@ -13,8 +13,8 @@ use Rattle.dd_engine.specs.declared.set_notes.WithdrawnImage.{WithdrawnImage}
 use Rattle.dd_engine.specs.Mentions.{first_number}
 use Rattle.dd_engine.specs.Merging.{SetListing, filed_in, pick_view}
 use Rattle.dd_engine.specs.MergeSteps.{GathersOf, Withdrawal, withdrawals_from, withdrawals_in}
-use Rattle.dd_engine.specs.SetNotes.{AreWithdrawn, WithdrawnAs, is_among, withdrawing, withdrawing_from, withdrawn_among}
-use Rattle.dd_engine.specs.SetNotes.{withdrawn_as}
+use Rattle.dd_engine.specs.SetNotes.{AreWithdrawn, WithdrawnAs, is_among, withdrawing, withdrawing_from}
+use Rattle.dd_engine.specs.SetNotes.{withdrawn_among, withdrawn_as}
 use Rattle.dd_engine.proofs.ImagePicks.{twice}
 use Rattle.dd_engine.proofs.RecordsNoted.{filed_is}
 

@@ -1,4 +1,4 @@
--- Versions whose digests are open until four slots are digested, and what reading sources gives until then.
+-- Versions whose digests are open until slots are digested together, and what reading sources gives until then.
 use Rattle.std.specs.Prelude.{◌≡◌, ◌<◌, ◌≤◌, ◌++◌, ◌∷◌, ℕ, List, [], Option, length, map, take}
 use Rattle.sha2.specs.Sha256.{sha256}
 use Rattle.dd_slots.specs.Slots.{IsSlotOf}
@@ -24,12 +24,17 @@ pub record Pending : Type 0 where
 abbrev pub digested : Pending → Parts
 digested pending = with_digest pending.version (sha256 pending.bytes)
 
+abbrev pub slots_of : Batch → List Slot
+slots_of batch =
+    batch.first ∷ batch.second ∷ batch.third ∷ batch.fourth ∷ batch.fifth ∷ batch.sixth ∷ batch.seventh
+    ∷ batch.next ∷ []
+
 -- the slots of the versions that are open
 abbrev pub open_slots : Batch → List Slot
-open_slots batch = take batch.used (batch.first ∷ batch.second ∷ batch.third ∷ batch.next ∷ [])
+open_slots batch = take batch.used (slots_of batch)
 
--- The last of these versions are open, and their bytes are in the batch. Once these have their digests, all versions are
--- `closed`.
+-- The last of these versions are open, and their bytes are in the batch. Once these have their digests, all versions
+-- are `closed`.
 pub record IsOpen (batch : Batch) (versions closed : List Parts) : Type 0 where
   pub front : List Parts
   pub pending : List Pending
@@ -38,9 +43,9 @@ pub record IsOpen (batch : Batch) (versions closed : List Parts) : Type 0 where
   pub all : versions ≡ front ++ map (λ one. one.version) pending
   pub done : closed ≡ front ++ map digested pending
 
--- fewer than four are open, and no more than there are
+-- fewer than eight are open, and no more than there are
 abbrev pub HasRoom : Batch → List Parts → Type 0
-HasRoom batch versions = (batch.used < 4) × (batch.used ≤ length versions)
+HasRoom batch versions = (batch.used < 8) × (batch.used ≤ length versions)
 
 -- ---- what is read
 

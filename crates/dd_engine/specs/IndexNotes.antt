@@ -56,7 +56,8 @@ NotesIndex choice limits answers (Err noted) = IsRefused choice limits answers n
 
 -- ---- the answer for this number of sources, where `contents` gives the bytes of each source that are known
 
-abbrev pub NotesFault : Choice → Limits → ℕ → (ℕ → Option (List ℕ)) → ℕ → EngineFault → Option (ConflictingFiles ℕ) → Type 0
+abbrev pub NotesFault : Choice → Limits → ℕ → (ℕ → Option (List ℕ)) → ℕ → EngineFault
+    → Option (ConflictingFiles ℕ) → Type 0
 NotesFault choice limits limit contents sources (Absent at) conflict = (at < sources) × (conflict ≡ None)
 NotesFault choice limits limit contents sources (Unread at) conflict = (at < sources) × (conflict ≡ None)
 NotesFault choice limits limit contents sources Memory conflict = conflict ≡ None

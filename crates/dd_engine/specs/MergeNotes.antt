@@ -11,8 +11,8 @@ use Rattle.dd_engine.specs.declared.noted_merge.NotedMerge.{NotedMerge}
 use Rattle.dd_engine.specs.declared.notes.ConflictingFiles.{ConflictingFiles}
 use Rattle.dd_engine.specs.declared.notes.LeftOut.{LeftOut}
 use Rattle.dd_engine.specs.declared.notes.NotedFault.{NotedFault}
-use Rattle.dd_engine.specs.Merging.{AreOwn, IsFirst, IsForeign, IsGiven, IsMerged, SetListing, filed_in, held_in, numbered}
-use Rattle.dd_engine.specs.Merging.{pick_view, versions_in}
+use Rattle.dd_engine.specs.Merging.{AreOwn, IsFirst, IsForeign, IsGiven, IsMerged, SetListing, filed_in, held_in}
+use Rattle.dd_engine.specs.Merging.{numbered, pick_view, versions_in}
 use Rattle.dd_engine.specs.MergeSteps.{MergesAs}
 use Rattle.dd_engine.specs.Noting.{AreLeftOut, IsConflictOf, IsFound}
 use Rattle.dd_engine.specs.PatientNames.{AreNamed, NamedPatient, with_kept_digest}
@@ -57,7 +57,8 @@ NotesMerge choice limits given listings (Err noted) =
 
 -- ---- the answer for sets with these bytes, where the given UIDs are withdrawn as well
 
-abbrev pub NotesSetsFault : Choice → Limits → List (List ℕ) → List (List ℕ) → MergeFault → Option (ConflictingFiles Pick) → Type 0
+abbrev pub NotesSetsFault : Choice → Limits → List (List ℕ) → List (List ℕ) → MergeFault
+    → Option (ConflictingFiles Pick) → Type 0
 NotesSetsFault choice limits given sets (Dir at fault) conflict =
     IsFirst (λ set. Refuses set fault) sets at × (conflict ≡ None)
 NotesSetsFault choice limits given sets (Own at fault) conflict =

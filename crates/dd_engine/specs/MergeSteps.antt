@@ -15,8 +15,8 @@ use Rattle.dd_engine.specs.declared.merge.Pick.{Pick}
 use Rattle.dd_engine.specs.declared.merge_fault.MergeFault.{MergeFault}
 use Rattle.dd_engine.specs.declared.merge_fault.MergeFault.TheVariants.{Dir, Own, Plan, Memory}
 use Rattle.dd_engine.specs.Choosing.{refusal_for}
-use Rattle.dd_engine.specs.Merging.{AreOwn, IsForeign, IsGiven, IsMerged, IsOwn, RefusesSets, SetListing, held_in, numbered}
-use Rattle.dd_engine.specs.Merging.{pick_view, place_pick, places_in, versions_in}
+use Rattle.dd_engine.specs.Merging.{AreOwn, IsForeign, IsGiven, IsMerged, IsOwn, RefusesSets, SetListing, held_in}
+use Rattle.dd_engine.specs.Merging.{numbered, pick_view, place_pick, places_in, versions_in}
 
 -- ---- faults as faults of a merge, which has one Memory for all
 

@@ -1,7 +1,7 @@
 -- What merging directories answers: the walks of their bytes, the images that these list and the UIDs that they
 -- withdraw. What is kept of all together is laid out, and each image has the file that it is copied from.
-use Rattle.std.specs.Prelude.{◌≡◌, ◌≢◌, ◌⊎◌, ◌<◌, ℕ, suc, List, [], ◌∷◌, ◌++◌, length, map, take, get_or, None, Some, Result, Ok}
-use Rattle.std.specs.Prelude.{Err}
+use Rattle.std.specs.Prelude.{◌≡◌, ◌≢◌, ◌⊎◌, ◌<◌, ℕ, suc, List, [], ◌∷◌, ◌++◌, length, map, take, get_or, None, Some}
+use Rattle.std.specs.Prelude.{Result, Ok, Err}
 use Rattle.dd_catalogue.specs.Contents.{Contents, held_of}
 use Rattle.dd_catalogue.specs.Harmony.{harmonised}
 use Rattle.dd_catalogue.specs.Histories.{together}

@@ -61,7 +61,8 @@ conflict_of m versions Memory = None
 
 -- the note has the first places of the two versions; where the fault does not name two versions that m keeps, there is
 -- no note
-abbrev pub IsConflictOf : {T U : Type 0} → (T → U) → List Parts → List (U × Parts) → PlanFault → Option (ConflictingFiles T) → Type 0
+abbrev pub IsConflictOf : {T U : Type 0} → (T → U) → List Parts → List (U × Parts) → PlanFault
+    → Option (ConflictingFiles T) → Type 0
 IsConflictOf place m versions fault conflict =
     option_map (λ conflict. (place conflict.one, place conflict.other)) conflict ≡ conflict_of m versions fault
 
@@ -79,4 +80,5 @@ abbrev pub AreBelow : {T : Type 0} → (T → ℕ) → ℕ → List (LeftOut T) 
 AreBelow number count notes = All (λ note. (number note.file < count) × (number note.kept < count)) notes
 
 abbrev pub IsBelow : {T : Type 0} → (T → ℕ) → ℕ → Option (ConflictingFiles T) → Type 0
-IsBelow number count conflict = IfSome conflict (λ conflict. (number conflict.one < count) × (number conflict.other < count))
+IsBelow number count conflict =
+    IfSome conflict (λ conflict. (number conflict.one < count) × (number conflict.other < count))

@@ -29,16 +29,16 @@ kept_in basis = kept_of basis.versions.items basis.withdrawn
 abbrev pub filed_as_given : {T : Type 0} → Basis T → List (T × Parts)
 filed_as_given basis = zip basis.origins.items basis.versions.items
 
--- No two of the kept versions m conflict, and with these changes they are in harmony. Each has its first file, and these
--- are the notes.
-pub record Finds {T : Type 0} (m : List Parts) (origins : List T) (versions : List Parts) (findings : Findings T) : Type 0
-  where
-    pub none : first_conflict m ≡ None
-    pub harmony : with_changes findings.changes m ≡ harmonised m
-    pub files : map (λ file. Some file) findings.files.items
-        ≡ map (λ version. found (files_of (zip origins versions)) (file_of version)) m
-    pub left : AreLeftOut (λ at. at) m (zip origins versions) findings.notes.left_out.items
-    pub names : AreNamed (with_kept_digest m versions) findings.notes.names.items
+-- No two of the kept versions m conflict, and with these changes they are in harmony. Each has its first file, and
+-- these are the notes.
+pub record Finds {T : Type 0} (m : List Parts) (origins : List T) (versions : List Parts)
+    (findings : Findings T) : Type 0 where
+  pub none : first_conflict m ≡ None
+  pub harmony : with_changes findings.changes m ≡ harmonised m
+  pub files : map (λ file. Some file) findings.files.items
+      ≡ map (λ version. found (files_of (zip origins versions)) (file_of version)) m
+  pub left : AreLeftOut (λ at. at) m (zip origins versions) findings.notes.left_out.items
+  pub names : AreNamed (with_kept_digest m versions) findings.notes.names.items
 
 abbrev pub AreFindings : {T : Type 0} → Basis T → Findings T → Type 0
 AreFindings basis findings = Finds (kept_in basis) basis.origins.items basis.versions.items findings

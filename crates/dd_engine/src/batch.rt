@@ -1,4 +1,4 @@
-//! Versions whose digests are open, until four are set at once.
+//! Versions whose digests are open, until as many as there are lanes are set at once.
 ghost use Rattle.std.specs.Prelude.{◌≡◌, ◌<◌, ◌≤◌, ◌+◌, ◌++◌, ◌∷◌, ℕ, List, [], length};
 ghost use Rattle.sha2.specs.Sha256.{sha256};
 ghost use Rattle.dd_slots.specs.Slots.{IsSlotOf};
@@ -6,40 +6,50 @@ ghost use Rattle.dd_version.specs.Copies.{with_digest};
 ghost use Rattle.dd_version.specs.declared.parts.Parts.{Parts};
 ghost use Rattle.dd_engine.specs.Batches.{HasRoom, IsOpen, open_slots};
 
-use dd_slots::{Slot, digest_slots};
+use dd_slots::{Lanes, Slot, digest_slots};
 use dd_version::Version;
 use std::alloc::Global;
 use std::mem;
 
-/// Keeps the bytes of the last versions that were read, whose digests are open: of at most three, or of four just
-/// before these are set.
+/// Keeps the bytes of the last versions that were read, whose digests are open: of fewer than there are lanes, or of as
+/// many just before these are set.
 #[derive(Drop)]
 pub(crate) struct Batch {
     first: Slot,
     second: Slot,
     third: Slot,
-    /// The slot of the source that is read next: the fourth once three versions are open.
+    fourth: Slot,
+    fifth: Slot,
+    sixth: Slot,
+    seventh: Slot,
+    /// The slot of the source that is read next: the eighth once seven versions are open.
     pub(crate) next: Slot,
     used: usize,
+    lanes: Lanes,
 }
 
 impl Batch {
-    pub(crate) fn new(alloc: Global) -> Batch
+    pub(crate) fn new(alloc: Global, lanes: Lanes) -> Batch
         ensures { result.used ≡ 0 }
     {
         Batch {
             first: Slot::new(alloc),
             second: Slot::new(alloc),
             third: Slot::new(alloc),
+            fourth: Slot::new(alloc),
+            fifth: Slot::new(alloc),
+            sixth: Slot::new(alloc),
+            seventh: Slot::new(alloc),
             next: Slot::new(alloc),
             used: 0,
+            lanes,
         }
     }
 
-    /// Adds the next slot, which has the bytes of the last of these versions. At four open versions, sets their
-    /// digests.
+    /// Adds the next slot, which has the bytes of the last of these versions. Where as many versions are open as there
+    /// are lanes, sets their digests.
     pub(crate) fn add(&mut self, versions: &mut Vec<Version>)
-        requires room { self.old.used < 4 }
+        requires room { self.old.used < 8 }
         requires there { self.old.used < length versions.old.items }
         ensures room { HasRoom self.new versions.new.items }
         ensures added { (front closed : List Parts) (version : Parts) (bytes : List ℕ)
@@ -48,7 +58,7 @@ impl Batch {
             → IsOpen self.new versions.new.items (closed ++ with_digest version (sha256 bytes) ∷ []) }
     {
         self.shift();
-        if self.used == 4 {
+        if self.used >= self.lanes.count() {
             self.settle(versions);
         }
     }
@@ -64,7 +74,7 @@ impl Batch {
     }
 
     fn shift(&mut self)
-        requires { self.old.used < 4 }
+        requires { self.old.used < 8 }
         ensures used { self.new.used ≡ self.old.used + 1 }
         ensures slots { open_slots self.new ≡ open_slots self.old ++ self.old.next ∷ [] }
     {
@@ -72,20 +82,28 @@ impl Batch {
             0 => mem::swap(&mut self.first, &mut self.next),
             1 => mem::swap(&mut self.second, &mut self.next),
             2 => mem::swap(&mut self.third, &mut self.next),
+            3 => mem::swap(&mut self.fourth, &mut self.next),
+            4 => mem::swap(&mut self.fifth, &mut self.next),
+            5 => mem::swap(&mut self.sixth, &mut self.next),
+            6 => mem::swap(&mut self.seventh, &mut self.next),
             _ => (),
         }
         self.used += 1;
     }
 
     fn settle(&mut self, versions: &mut Vec<Version>)
-        requires few { self.old.used ≤ 4 }
+        requires few { self.old.used ≤ 8 }
         requires there { self.old.used ≤ length versions.old.items }
         ensures used { self.new.used ≡ 0 }
         ensures settled { (closed : List Parts) → IsOpen self.old versions.old.items closed
             → versions.new.items ≡ closed }
     {
-        let (a, b, c, d) = digest_slots(&self.first, &self.second, &self.third, &self.next);
-        let digests = [a, b, c, d];
+        let ((a, b, c, d), (e, f, g, h)) = digest_slots(
+            self.lanes,
+            (&self.first, &self.second, &self.third, &self.fourth),
+            (&self.fifth, &self.sixth, &self.seventh, &self.next),
+        );
+        let digests = [a, b, c, d, e, f, g, h];
         let first = versions.len() - self.used;
         for at in 0..self.used {
             versions[first + at].set_digest(digests[at]);
@@ -99,6 +117,10 @@ impl Batch {
         self.first.clear();
         self.second.clear();
         self.third.clear();
+        self.fourth.clear();
+        self.fifth.clear();
+        self.sixth.clear();
+        self.seventh.clear();
         self.next.clear();
         self.used = 0;
     }

@@ -12,6 +12,7 @@ use crate::sources::{Sources, read_one};
 use crate::supply::Supply;
 use dd_elem::Memory;
 use dd_keys::KeyFault;
+use dd_slots::Lanes;
 use std::alloc::Global;
 
 /// What was read of sources, where those that fail are passed.
@@ -24,7 +25,7 @@ pub(crate) struct Readings {
 }
 
 impl Readings {
-    fn new(alloc: Global) -> Readings
+    fn new(alloc: Global, lanes: Lanes) -> Readings
         ensures sources { Holds [] result.sources }
         ensures absent { result.absent.items ≡ [] }
         ensures batch { result.batch.used ≡ 0 }
@@ -32,7 +33,7 @@ impl Readings {
         Readings {
             sources: Sources::new(alloc),
             absent: Vec::new(alloc),
-            batch: Batch::new(alloc),
+            batch: Batch::new(alloc, lanes),
         }
     }
 
@@ -125,7 +126,7 @@ pub(crate) fn read_past_failures<S: Supply>(
         × (S.contents supply.new ≡ S.contents supply.old)
         × (S.rest supply.new ≡ S.rest supply.old) }
 {
-    let mut read = Readings::new(alloc);
+    let mut read = Readings::new(alloc, supply.lanes());
     for at in 0..supply.count() {
         read_next(alloc, supply, at, &mut read, limit)?;
     }

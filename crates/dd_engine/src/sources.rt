@@ -110,7 +110,7 @@ pub(crate) fn read_sources<S: Supply>(
         × (S.rest supply.new ≡ S.rest supply.old) }
 {
     let mut sources = Sources::new(alloc);
-    let mut batch = Batch::new(alloc);
+    let mut batch = Batch::new(alloc, supply.lanes());
     for at in 0..supply.count() {
         let answer = read_one(alloc, supply, at, &mut batch.next, limit)?;
         sources.keep(at, answer, &mut batch)?;

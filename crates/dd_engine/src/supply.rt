@@ -3,6 +3,7 @@ ghost use Rattle.dd_engine.specs.Supply.{AddsTo, AllStay, CountsRefusal, IsOpena
 
 use dd_elem::Read;
 use dd_files::NotThere;
+use dd_slots::Lanes;
 
 /// Opens sources by their numbers, which are below `count`. For each it counts refusals, lent readers, and the reads
 /// and failures of the readers that were taken back. A source with a count at `u64::MAX` is refused.
@@ -35,6 +36,9 @@ pub trait Supply {
     /// Says how many sources there are.
     fn count(&self) -> usize
         ensures { result ≡ sources self.now };
+
+    /// Says how many sources are digested at once.
+    fn lanes(&self) -> Lanes;
 
     /// Opens a source for reading. Refused, too, where no source has this number.
     fn begin(&mut self, at: usize) -> Result<Self::In, NotThere>

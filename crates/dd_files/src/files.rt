@@ -3,6 +3,7 @@ ghost use Rattle.std.specs.Io.KnownBytes.{Appends};
 ghost use Rattle.dd_files.specs.Files.{Held, IsCall, IsUnread, ended, grown, linked, started, written};
 
 use dd_elem::{Read, Write};
+use dd_slots::Lanes;
 use thiserror::Error;
 
 /// Limits the bytes of a file that is read.
@@ -41,6 +42,9 @@ pub trait Files: Write {
 
     // None where it is not known.
     ghost held: { Self → Option Held };
+
+    /// Says how many files are digested at once.
+    fn lanes(&self) -> Lanes;
 
     /// Opens a file for reading.
     fn source(&mut self, path: &str) -> Result<Self::In, NotThere>

@@ -96,13 +96,19 @@ known_of place = known_by place.found place.slot.hasher place.slot.kept.items
 
 -- what is known of the files whose places are held
 abbrev pub files_of : Places → List Ahead
-files_of all = take all.held (known_of all.first ∷ known_of all.second ∷ known_of all.third ∷ known_of all.latest ∷ [])
+files_of all = take all.held (known_of all.first ∷ known_of all.second ∷ known_of all.third ∷ known_of all.fourth
+    ∷ known_of all.fifth ∷ known_of all.sixth ∷ known_of all.seventh ∷ known_of all.latest ∷ [])
 
--- at most four are held, and each is a place
+-- at most eight are held, and each is a place
 abbrev pub ArePlaces : Places → Bool → Type 0
-ArePlaces all digested = (all.held ≤ 4) × (IsPlace all.first.slot all.first.found digested
-    × (IsPlace all.second.slot all.second.found digested × (IsPlace all.third.slot all.third.found digested
-    × IsPlace all.latest.slot all.latest.found digested)))
+ArePlaces all digested = (all.held ≤ 8)
+    × (IsPlace all.first.slot all.first.found digested
+    × (IsPlace all.second.slot all.second.found digested
+    × (IsPlace all.third.slot all.third.found digested
+    × (IsPlace all.fourth.slot all.fourth.found digested
+    × (IsPlace all.fifth.slot all.fifth.found digested
+    × (IsPlace all.sixth.slot all.sixth.found digested
+    × (IsPlace all.seventh.slot all.seventh.found digested × IsPlace all.latest.slot all.latest.found digested)))))))
 
 -- a version that was found gets this digest
 abbrev pub found_with : Found → List ℕ → Found

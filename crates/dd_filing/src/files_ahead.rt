@@ -1,4 +1,4 @@
-//! Files that are read ahead of their copies, so that four are digested at once.
+//! Files that are read ahead of their copies, so that several are digested at once.
 
 ghost use Rattle.std.specs.Prelude.{◌≡◌, ◌↔◌, ◌<◌, ◌≤◌, ◌+◌, true, length, min, IsTrue};
 ghost use Rattle.dd_stream.specs.Reads.{ReadsUpTo};
@@ -8,11 +8,12 @@ ghost use Rattle.dd_filing.specs.declared.places.Ahead.TheVariants as known;
 
 use crate::places::{Ahead, Places};
 use dd_elem::Read;
+use dd_slots::Lanes;
 use std::alloc::Global;
 use std::marker::Model;
 
 /// The most files that are read ahead.
-pub const FILES_AHEAD: usize = 4;
+pub const FILES_AHEAD: usize = 8;
 
 /// Reads ahead each of the next `FILES_AHEAD` files that has less than 8 MiB, where memory allows.
 #[derive(Drop)]
@@ -59,10 +60,10 @@ impl FilesAhead {
     /// Reads the next file. Reads nothing where `FILES_AHEAD` files are there. A file that is too long or of no
     /// version, or whose allocation is refused, is `Unknown`.
     pub fn read<R: Read>(&mut self, alloc: Global, reader: &mut R)
-        ensures room { length self.old.files < 4 → ReadsUpTo R.Read ahead_limit reader.old reader.new
+        ensures room { length self.old.files < 8 → ReadsUpTo R.Read ahead_limit reader.old reader.new
             (λ given left failures after. (file : Ahead) × ((self.new ≡ with_file self.old file)
             × IsReadAhead file ahead_limit given left failures after)) }
-        ensures full { 4 ≤ length self.old.files
+        ensures full { 8 ≤ length self.old.files
             → (self.new ≡ self.old) × (reader.new ≡ reader.old) }
     {
         if self.is_full() {
@@ -75,8 +76,8 @@ impl FilesAhead {
 
     /// Keeps that the next file could not be opened, where fewer than `FILES_AHEAD` are there.
     pub fn refuse(&mut self)
-        ensures room { length self.old.files < 4 → self.new ≡ with_file self.old known.Absent }
-        ensures full { 4 ≤ length self.old.files → self.new ≡ self.old }
+        ensures room { length self.old.files < 8 → self.new ≡ with_file self.old known.Absent }
+        ensures full { 8 ≤ length self.old.files → self.new ≡ self.old }
     {
         if self.is_full() {
             return;
@@ -88,8 +89,8 @@ impl FilesAhead {
 
     /// Passes over the next file, of which nothing is known, where fewer than `FILES_AHEAD` are there.
     pub fn skip(&mut self)
-        ensures room { length self.old.files < 4 → self.new ≡ with_file self.old known.Unknown }
-        ensures full { 4 ≤ length self.old.files → self.new ≡ self.old }
+        ensures room { length self.old.files < 8 → self.new ≡ with_file self.old known.Unknown }
+        ensures full { 8 ≤ length self.old.files → self.new ≡ self.old }
     {
         if self.is_full() {
             return;
@@ -100,20 +101,21 @@ impl FilesAhead {
     }
 
     fn is_full(&self) -> bool
-        ensures { IsTrue result ↔ 4 ≤ length self.now.files }
+        ensures { IsTrue result ↔ 8 ≤ length self.now.files }
     {
         self.places.held >= FILES_AHEAD
     }
 
-    /// Digests the files that were read, four side by side. Before that, a file that was read whole is `Unknown`.
-    pub fn digest(&mut self)
+    /// Digests the files that were read, as many side by side as `lanes` says. Before that, a file that was read whole
+    /// is `Unknown`.
+    pub fn digest(&mut self, lanes: Lanes)
         ensures { self.new ≡ record {
           files = self.old.files;
           past = self.old.past;
           digested = true;
         } }
     {
-        self.places.digest();
+        self.places.digest(lanes);
         self.is_digested = true;
     }
 

@@ -2,8 +2,8 @@
 
 ghost use Rattle.std.specs.Prelude.{◌≡◌, ◌<◌, ◌+◌, ◌++◌, ◌∷◌, [], Bool, false, get_or};
 ghost use Rattle.dd_stream.specs.Reads.{ReadsUpTo};
-ghost use Rattle.dd_filing.specs.Ahead.{ArePlaces, IsDigested, IsPlace, IsReadAhead, IsSentAhead, ahead_limit, files_of};
-ghost use Rattle.dd_filing.specs.Ahead.{found_with, known_of, shown};
+ghost use Rattle.dd_filing.specs.Ahead.{ArePlaces, IsDigested, IsPlace, IsReadAhead, IsSentAhead, ahead_limit};
+ghost use Rattle.dd_filing.specs.Ahead.{files_of, found_with, known_of, shown};
 ghost use Rattle.dd_filing.specs.declared.places.Ahead.TheVariants as known;
 ghost use Rattle.dd_filing.specs.declared.places.Found.TheVariants.{Absent, Nothing};
 
@@ -11,7 +11,7 @@ use crate::agreeing::Filed;
 use crate::copying::FilingFault;
 use dd_elem::{Read, Write};
 use dd_keys::{KeyFault, ingest_kept, one_version};
-use dd_slots::{Slot, digest_slots};
+use dd_slots::{Lanes, Slot, digest_slots};
 use dd_stream::send;
 use dd_version::Version;
 use std::alloc::Global;
@@ -142,13 +142,17 @@ impl Place {
     }
 }
 
-/// Holds up to four places.
+/// Holds up to eight places.
 #[derive(Drop)]
 pub(crate) struct Places {
     first: Place,
     second: Place,
     third: Place,
-    /// The place of the next file: the fourth once three are held.
+    fourth: Place,
+    fifth: Place,
+    sixth: Place,
+    seventh: Place,
+    /// The place of the next file: the eighth once seven are held.
     pub(crate) latest: Place,
     pub(crate) held: usize,
 }
@@ -162,6 +166,10 @@ impl Places {
             first: Place::new(alloc),
             second: Place::new(alloc),
             third: Place::new(alloc),
+            fourth: Place::new(alloc),
+            fifth: Place::new(alloc),
+            sixth: Place::new(alloc),
+            seventh: Place::new(alloc),
             latest: Place::new(alloc),
             held: 0,
         }
@@ -172,16 +180,35 @@ impl Places {
         ensures none { self.new.held ≡ 0 }
         ensures places { (digested : Bool) → ArePlaces self.new digested }
     {
+        self.swap_back();
         self.first.clear();
         self.second.clear();
         self.third.clear();
+        self.fourth.clear();
+        self.fifth.clear();
+        self.sixth.clear();
+        self.seventh.clear();
         self.latest.clear();
         self.held = 0;
     }
 
+    /// Makes the place that was held last the latest again: places that were never held then get no memory.
+    fn swap_back(&mut self) {
+        match self.held {
+            1 => mem::swap(&mut self.first, &mut self.latest),
+            2 => mem::swap(&mut self.second, &mut self.latest),
+            3 => mem::swap(&mut self.third, &mut self.latest),
+            4 => mem::swap(&mut self.fourth, &mut self.latest),
+            5 => mem::swap(&mut self.fifth, &mut self.latest),
+            6 => mem::swap(&mut self.sixth, &mut self.latest),
+            7 => mem::swap(&mut self.seventh, &mut self.latest),
+            _ => (),
+        }
+    }
+
     /// Holds the latest place as well.
     pub(crate) fn keep(&mut self)
-        requires { self.old.held < 4 }
+        requires { self.old.held < 8 }
         ensures held { self.new.held ≡ self.old.held + 1 }
         ensures files { files_of self.new ≡ files_of self.old ++ known_of self.old.latest ∷ [] }
         ensures places { (digested : Bool) → ArePlaces self.old digested → ArePlaces self.new digested }
@@ -190,29 +217,50 @@ impl Places {
             0 => mem::swap(&mut self.first, &mut self.latest),
             1 => mem::swap(&mut self.second, &mut self.latest),
             2 => mem::swap(&mut self.third, &mut self.latest),
+            3 => mem::swap(&mut self.fourth, &mut self.latest),
+            4 => mem::swap(&mut self.fifth, &mut self.latest),
+            5 => mem::swap(&mut self.sixth, &mut self.latest),
+            6 => mem::swap(&mut self.seventh, &mut self.latest),
             _ => (),
         }
         self.held += 1;
     }
 
-    /// Sets the digests of all versions, four side by side.
-    pub(crate) fn digest(&mut self)
+    /// Sets the digests of all versions, as many side by side as `lanes` says.
+    pub(crate) fn digest(&mut self, lanes: Lanes)
         ensures held { self.new.held ≡ self.old.held }
         ensures first { IsDigested self.old.first self.new.first }
         ensures second { IsDigested self.old.second self.new.second }
         ensures third { IsDigested self.old.third self.new.third }
+        ensures fourth { IsDigested self.old.fourth self.new.fourth }
+        ensures fifth { IsDigested self.old.fifth self.new.fifth }
+        ensures sixth { IsDigested self.old.sixth self.new.sixth }
+        ensures seventh { IsDigested self.old.seventh self.new.seventh }
         ensures latest { IsDigested self.old.latest self.new.latest }
     {
-        let (first, second, third, fourth) = digest_slots(
-            &self.first.slot,
-            &self.second.slot,
-            &self.third.slot,
-            &self.latest.slot,
+        let (front, back) = digest_slots(
+            lanes,
+            (
+                &self.first.slot,
+                &self.second.slot,
+                &self.third.slot,
+                &self.fourth.slot,
+            ),
+            (
+                &self.fifth.slot,
+                &self.sixth.slot,
+                &self.seventh.slot,
+                &self.latest.slot,
+            ),
         );
-        set_digest(&mut self.first.found, first);
-        set_digest(&mut self.second.found, second);
-        set_digest(&mut self.third.found, third);
-        set_digest(&mut self.latest.found, fourth);
+        set_digest(&mut self.first.found, front.0);
+        set_digest(&mut self.second.found, front.1);
+        set_digest(&mut self.third.found, front.2);
+        set_digest(&mut self.fourth.found, front.3);
+        set_digest(&mut self.fifth.found, back.0);
+        set_digest(&mut self.sixth.found, back.1);
+        set_digest(&mut self.seventh.found, back.2);
+        set_digest(&mut self.latest.found, back.3);
     }
 
     pub(crate) fn ahead(&self, at: usize, is_digested: bool) -> Ahead<'_>
@@ -226,6 +274,10 @@ impl Places {
             0 => self.first.ahead(is_digested),
             1 => self.second.ahead(is_digested),
             2 => self.third.ahead(is_digested),
+            3 => self.fourth.ahead(is_digested),
+            4 => self.fifth.ahead(is_digested),
+            5 => self.sixth.ahead(is_digested),
+            6 => self.seventh.ahead(is_digested),
             _ => self.latest.ahead(is_digested),
         }
     }

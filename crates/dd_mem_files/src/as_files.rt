@@ -8,6 +8,7 @@ ghost use Rattle.dd_mem_files.specs.MemLaws.{held_grows, refusals_stay, told_con
 use crate::mem_files::MemFiles;
 use crate::mem_reader::MemReader;
 use dd_files::{Cause, Files, Hints, LinkFault, NotDone, NotThere, Progress, Step};
+use dd_slots::Lanes;
 
 impl Files for MemFiles {
     type In = MemReader;
@@ -160,6 +161,10 @@ impl Files for MemFiles {
         ensures { result.now ≡ codes "." }
     {
         "."
+    }
+
+    fn lanes(&self) -> Lanes {
+        self.lanes
     }
 
     ghost same_refusals = { refusals_stay };

@@ -16,6 +16,7 @@ use crate::mem_reader::MemReader;
 use crate::planned_faults::PlannedFaults;
 use dd_elem::{Counts, Memory, Write};
 use dd_files::{LinkFault, NotDone, NotThere};
+use dd_slots::Lanes;
 use std::alloc::Global;
 use std::collections::BTreeMap;
 use std::io;
@@ -32,6 +33,7 @@ pub struct MemFiles {
     pub(crate) refusals: u64,
     later: Option<Later>,
     planned: PlannedFaults,
+    pub(crate) lanes: Lanes,
 }
 
 // By hand, so that dropping it is one call.
@@ -45,6 +47,7 @@ impl Drop for MemFiles {
             refusals: _,
             later: _later,
             planned: _planned,
+            lanes: _,
         } = self;
     }
 }
@@ -63,7 +66,7 @@ impl Model for MemFiles {
 }
 
 impl MemFiles {
-    /// Makes an empty set of files.
+    /// Makes an empty set of files, of which four are digested at once.
     pub fn new(alloc: Global) -> Self
         ensures { result ≡ record {
           files = [];
@@ -82,6 +85,7 @@ impl MemFiles {
             refusals: 0,
             later: None,
             planned: PlannedFaults::new(),
+            lanes: Lanes::Four,
         }
     }
 
@@ -109,6 +113,13 @@ impl MemFiles {
             is_opened: false,
         });
         Ok(())
+    }
+
+    /// Has this many files digested at once.
+    pub fn set_lanes(&mut self, lanes: Lanes)
+        ensures { self.new ≡ self.old }
+    {
+        self.lanes = lanes;
     }
 
     /// Makes writes fail once they have taken `after` bytes in all, counted from this call.

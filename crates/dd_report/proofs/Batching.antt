@@ -13,7 +13,9 @@ use Rattle.sha2.specs.Sha256.{sha256}
 use Rattle.sha2.specs.declared.Sha256.{Sha256}
 use Rattle.dd_elem.specs.declared.device.Write.{Ghosts as WriteOf}
 use Rattle.dd_elem.proofs.Known.{appends_none}
-use Rattle.dd_slots.specs.Slots.{HasTaken, IsSlotOf}
+use Rattle.dd_slots.specs.Slots.{HasTaken, IsSlotOf, lane_count}
+use Rattle.dd_slots.specs.declared.digests.Lanes.{Lanes}
+use Rattle.dd_slots.specs.declared.digests.Lanes.TheVariants.{Four, Eight}
 use Rattle.dd_slots.specs.declared.slot.Slot.{Slot}
 use Rattle.dd_version.specs.Fitting.{is_empty}
 use Rattle.dd_report.specs.Batches.{Adds, AllKept, CanSettle, Closes, Grows, IsReady, KeepsPending, Report, by_recorded}
@@ -86,28 +88,26 @@ adds_all r text a b c first second =
 
 -- ---- files of a batch
 
-abbrev three : Batch → List PendingFile
-three batch = batch.first ∷ batch.second ∷ batch.third ∷ []
+abbrev seven : Batch → List PendingFile
+seven batch =
+    batch.first ∷ batch.second ∷ batch.third ∷ batch.fourth ∷ batch.fifth ∷ batch.sixth ∷ batch.seventh ∷ []
 
-three_same : (old new : Batch) → KeepsPending old new → three new ≡ three old
-three_same old new h =
-    ap (λ (one : PendingFile). one ∷ new.second ∷ new.third ∷ []) h.first
-    ∙ ap (λ (one : PendingFile). old.first ∷ one ∷ new.third ∷ []) h.second
-    ∙ ap (λ (one : PendingFile). old.first ∷ old.second ∷ one ∷ []) h.third
+seven_same : (old new : Batch) → KeepsPending old new → seven new ≡ seven old
+seven_same old new h = cc
 
--- fewer than four files wait
-pub pending_same : (old new : Batch) → old.used < 4 → KeepsPending old new → pending_files new ≡ pending_files old
+-- fewer than eight files wait
+pub pending_same : (old new : Batch) → old.used < 8 → KeepsPending old new → pending_files new ≡ pending_files old
 pending_same old new room h =
-    let here : old.used ≤ length (three new) = omega (arith, room) in
-    let there : old.used ≤ length (three old) = omega (arith, room) in
+    let here : old.used ≤ length (seven new) = omega (arith, room) in
+    let there : old.used ≤ length (seven old) = omega (arith, room) in
     ap (λ (n : ℕ). take n (files_of new)) h.used
-    ∙ take-append-le old.used (three new) (new.next ∷ []) here
-    ∙ ap (λ (xs : List PendingFile). take old.used xs) (three_same old new h)
-    ∙ sym (take-append-le old.used (three old) (old.next ∷ []) there)
+    ∙ take-append-le old.used (seven new) (new.next ∷ []) here
+    ∙ ap (λ (xs : List PendingFile). take old.used xs) (seven_same old new h)
+    ∙ sym (take-append-le old.used (seven old) (old.next ∷ []) there)
 
 pub ready_same : (old new : Batch) → IsReady old → KeepsPending old new → IsReady new
 ready_same old new ready h = (
-  subst (λ (n : ℕ). n < 4) (sym h.used) ready.0,
+  subst (λ (n : ℕ). n < 8) (sym h.used) ready.0,
   subst (λ (xs : List PendingFile). AllKept xs) (sym (pending_same old new ready.0 h)) ready.1,
 )
 
@@ -117,7 +117,7 @@ report_at waiting holds failures found text = record {
   found = found || not (is_empty text);
 }
 
-pub report_same : {W : Type 0} (writer : WriteOf W) (lines : LineBuffer W) (old new : Batch) → old.used < 4
+pub report_same : {W : Type 0} (writer : WriteOf W) (lines : LineBuffer W) (old new : Batch) → old.used < 8
     → KeepsPending old new → report_of writer lines new ≡ report_of writer lines old
 report_same writer lines old new room h =
     let holds = writer.contents lines.to.now in
@@ -130,6 +130,10 @@ kept_more : (files : List PendingFile) (one : PendingFile) → AllKept files →
     → AllKept (files ++ one ∷ [])
 kept_more [] one kept here = (here, tt)
 kept_more (file ∷ files) one kept here = (kept.0, kept_more files one kept.1 here)
+
+pub at_most_eight : (lanes : Lanes) → lane_count lanes ≤ 8
+at_most_eight Four = omega arith
+at_most_eight Eight = omega arith
 
 -- one more waits
 pub settles_more : (old new : Batch) (one : PendingFile) → IsReady old → one.slot.hasher ≡ None
@@ -354,7 +358,17 @@ said_found (Err fault) text is some = tt
 -- ---- the next slot alone is other
 
 keeps_next : (batch : Batch) (next : PendingFile) → KeepsPending batch (record batch { next = next })
-keeps_next batch next = record { first = refl; second = refl; third = refl; used = refl; found = refl }
+keeps_next batch next = record {
+  first = refl;
+  second = refl;
+  third = refl;
+  fourth = refl;
+  fifth = refl;
+  sixth = refl;
+  seventh = refl;
+  used = refl;
+  found = refl;
+}
 
 pub other_settles : (batch : Batch) (next : PendingFile) → IsReady batch → CanSettle (record batch { next = next })
 other_settles batch next ready =

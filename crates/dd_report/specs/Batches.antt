@@ -1,4 +1,4 @@
--- Files that wait until four are digested at once, and what a check says until then.
+-- Files that wait until some are digested together, and what a check says until then.
 use Rattle.std.specs.Prelude.{◌≡◌, ◌<◌, ◌≤◌, ◌++◌, ◌∷◌, ◌||◌, ℕ, Bool, not, List, [], None, Option, Some, take}
 use Rattle.std.specs.Prelude.{Result, Ok, Err}
 use Rattle.std.specs.List.{flat_map}
@@ -41,7 +41,9 @@ pending_line one = digest_line one.named one.expected (sha256 one.slot.kept.item
 
 -- the files that wait
 abbrev pub files_of : Batch → List PendingFile
-files_of batch = batch.first ∷ batch.second ∷ batch.third ∷ batch.next ∷ []
+files_of batch =
+    batch.first ∷ batch.second ∷ batch.third ∷ batch.fourth ∷ batch.fifth ∷ batch.sixth ∷ batch.seventh
+    ∷ batch.next ∷ []
 
 abbrev pub pending_files : Batch → List PendingFile
 pending_files batch = take batch.used (files_of batch)
@@ -56,17 +58,21 @@ AllKept [] = Unit {0}
 AllKept (one ∷ others) = (one.slot.hasher ≡ None) × AllKept others
 
 abbrev pub CanSettle : Batch → Type 0
-CanSettle batch = (batch.used ≤ 4) × AllKept (pending_files batch)
+CanSettle batch = (batch.used ≤ 8) × AllKept (pending_files batch)
 
 -- there is room for one more
 abbrev pub IsReady : Batch → Type 0
-IsReady batch = (batch.used < 4) × AllKept (pending_files batch)
+IsReady batch = (batch.used < 8) × AllKept (pending_files batch)
 
 -- only the next slot may differ
 pub record KeepsPending (old new : Batch) : Type 0 where
   pub first : new.first ≡ old.first
   pub second : new.second ≡ old.second
   pub third : new.third ≡ old.third
+  pub fourth : new.fourth ≡ old.fourth
+  pub fifth : new.fifth ≡ old.fifth
+  pub sixth : new.sixth ≡ old.sixth
+  pub seventh : new.seventh ≡ old.seventh
   pub used : new.used ≡ old.used
   pub found : new.found ≡ old.found
 

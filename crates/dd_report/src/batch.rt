@@ -1,4 +1,4 @@
-//! Files that wait for their digests, until four are digested at once.
+//! Files that wait for their digests, until as many as there are lanes are digested at once.
 ghost use Rattle.std.specs.Prelude.{◌≡◌, ◌<◌, ◌↔◌, ◌++◌, ◌∷◌, [], ℕ, List, None, IfOk, IsNone, IsTrue, false};
 ghost use Rattle.std.specs.Prelude.{◌||◌, ◌+◌, Some, get_or, not, true};
 ghost use Rattle.sha2.specs.Sha256.{sha256};
@@ -16,7 +16,7 @@ use dd_elem::{Read, Write};
 use dd_files::{Files, PIECE, Progress, SOURCE_LIMIT, fill_slot};
 use dd_json::Style;
 use dd_lines::LineBuffer;
-use dd_slots::{Slot, digest_slots};
+use dd_slots::{Lanes, Slot, digest_slots};
 use std::alloc::Global;
 use std::{fmt, mem};
 
@@ -101,16 +101,22 @@ impl<'t> PendingFile<'t> {
     }
 }
 
-/// The last files that were read and wait for their digests: at most three, or four that are to be digested now.
+/// The last files that were read and wait for their digests: fewer than there are lanes, or as many that are to be
+/// digested now.
 #[derive(Drop)]
 pub(crate) struct Batch<'t> {
     first: PendingFile<'t>,
     second: PendingFile<'t>,
     third: PendingFile<'t>,
-    /// The file that is read next, which is the fourth where three wait.
+    fourth: PendingFile<'t>,
+    fifth: PendingFile<'t>,
+    sixth: PendingFile<'t>,
+    seventh: PendingFile<'t>,
+    /// The file that is read next, which is the eighth where seven wait.
     pub(crate) next: PendingFile<'t>,
     /// How many wait.
     used: usize,
+    lanes: Lanes,
     /// Whether anything was printed so far.
     pub(crate) found: bool,
     buffer: [u8; PIECE],
@@ -118,7 +124,7 @@ pub(crate) struct Batch<'t> {
 
 impl<'t> Batch<'t> {
     /// Allocates nothing.
-    pub(crate) fn new(alloc: Global) -> Batch<'t>
+    pub(crate) fn new(alloc: Global, lanes: Lanes) -> Batch<'t>
         ensures used { result.used ≡ 0 }
         ensures found { result.found ≡ false }
     {
@@ -126,8 +132,13 @@ impl<'t> Batch<'t> {
             first: PendingFile::new(alloc),
             second: PendingFile::new(alloc),
             third: PendingFile::new(alloc),
+            fourth: PendingFile::new(alloc),
+            fifth: PendingFile::new(alloc),
+            sixth: PendingFile::new(alloc),
+            seventh: PendingFile::new(alloc),
             next: PendingFile::new(alloc),
             used: 0,
+            lanes,
             found: false,
             buffer: [0; PIECE],
         }
@@ -142,7 +153,8 @@ impl<'t> Batch<'t> {
         fill_slot(reader, &mut self.next.slot, &mut self.buffer, SOURCE_LIMIT)
     }
 
-    /// Adds the file in the next slot. Where four files wait now, digests them and prints what is found.
+    /// Adds the file in the next slot. Where as many files wait now as there are lanes, digests them and prints what is
+    /// found.
     pub(crate) fn add<F: Files + Progress, W: Write>(
         &mut self,
         named: Named<'t>,
@@ -163,7 +175,7 @@ impl<'t> Batch<'t> {
         self.next.named = named;
         self.next.expected = expected;
         self.shift();
-        if self.used == 4 {
+        if self.used >= self.lanes.count() {
             self.settle_all(files, lines)
         } else {
             Ok(())
@@ -189,7 +201,7 @@ impl<'t> Batch<'t> {
     }
 
     fn shift(&mut self)
-        requires { self.old.used < 4 }
+        requires { self.old.used < 8 }
         ensures used { self.new.used ≡ self.old.used + 1 }
         ensures files { pending_files self.new ≡ pending_files self.old ++ self.old.next ∷ [] }
         ensures found { self.new.found ≡ self.old.found }
@@ -198,6 +210,10 @@ impl<'t> Batch<'t> {
             0 => mem::swap(&mut self.first, &mut self.next),
             1 => mem::swap(&mut self.second, &mut self.next),
             2 => mem::swap(&mut self.third, &mut self.next),
+            3 => mem::swap(&mut self.fourth, &mut self.next),
+            4 => mem::swap(&mut self.fifth, &mut self.next),
+            5 => mem::swap(&mut self.sixth, &mut self.next),
+            6 => mem::swap(&mut self.seventh, &mut self.next),
             _ => (),
         }
         self.used += 1;
@@ -242,13 +258,22 @@ impl<'t> Batch<'t> {
         ensures kept { F.held files.new ≡ F.held files.old }
         ensures refusals { F.refusals files.new ≡ F.refusals files.old }
     {
-        let (a, b, c, d) = digest_slots(
-            &self.first.slot,
-            &self.second.slot,
-            &self.third.slot,
-            &self.next.slot,
+        let ((a, b, c, d), (e, f, g, h)) = digest_slots(
+            self.lanes,
+            (
+                &self.first.slot,
+                &self.second.slot,
+                &self.third.slot,
+                &self.fourth.slot,
+            ),
+            (
+                &self.fifth.slot,
+                &self.sixth.slot,
+                &self.seventh.slot,
+                &self.next.slot,
+            ),
         );
-        let digests = [a, b, c, d];
+        let digests = [a, b, c, d, e, f, g, h];
         let mut found = self.found;
         for at in 0..self.used {
             found = self.file_at(at).tell(digests[at], files, lines)? || found;
@@ -257,13 +282,17 @@ impl<'t> Batch<'t> {
     }
 
     fn file_at(&self, at: usize) -> &PendingFile<'t>
-        requires { at < 4 }
+        requires { at < 8 }
         ensures { result.now ≡ get_or (files_of self.now) at result.now }
     {
         match at {
             0 => &self.first,
             1 => &self.second,
             2 => &self.third,
+            3 => &self.fourth,
+            4 => &self.fifth,
+            5 => &self.sixth,
+            6 => &self.seventh,
             _ => &self.next,
         }
     }
@@ -276,6 +305,10 @@ impl<'t> Batch<'t> {
         self.first.slot.clear();
         self.second.slot.clear();
         self.third.slot.clear();
+        self.fourth.slot.clear();
+        self.fifth.slot.clear();
+        self.sixth.slot.clear();
+        self.seventh.slot.clear();
         self.next.slot.clear();
         self.used = 0;
     }

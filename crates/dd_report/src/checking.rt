@@ -153,7 +153,7 @@ fn check_counted<F: Files + Progress, W: Write>(
         check,
         inherited: Inherited::at_root(),
     };
-    let mut batch = Batch::new(check.alloc);
+    let mut batch = Batch::new(check.alloc, files.lanes());
     let checked = check_trees(at, trees, files, lines, &mut batch);
     let found = found_at_end(checked, files, lines, &mut batch);
     files.hide_line();

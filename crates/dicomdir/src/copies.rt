@@ -13,7 +13,7 @@ use crate::origins::Origins;
 use crate::refusal::{ProgramFault, Refusal, Subject};
 use dd_elem::FileId;
 use dd_files::{Files, Progress, SOURCE_LIMIT, Step, file_path};
-use dd_filing::{Ahead, FILES_AHEAD, FileAhead, Filed, FilesAhead, FilingFault, file_image};
+use dd_filing::{Ahead, FileAhead, Filed, FilesAhead, FilingFault, file_image};
 use dd_layout::PlanRecord;
 use std::alloc::Global;
 
@@ -107,7 +107,8 @@ fn read_ahead<F: Files, O: Origins>(
         return;
     }
     ahead.clear();
-    let near = picks.len().min(FILES_AHEAD);
+    let lanes = files.lanes();
+    let near = picks.len().min(lanes.count());
     for pick in &picks[..near] {
         match open(alloc, origins, *pick, files) {
             Ok(mut reader) => ahead.read(alloc, &mut reader),
@@ -115,7 +116,7 @@ fn read_ahead<F: Files, O: Origins>(
             Err(_) => ahead.skip(),
         }
     }
-    ahead.digest();
+    ahead.digest(lanes);
 }
 
 fn make_image<F: Files + Progress, O: Origins>(

@@ -9,6 +9,7 @@ use crate::counted_reader::CountedReader;
 use crate::source_counts::SourceCounts;
 use dd_engine::Supply;
 use dd_files::{Files, NotThere, Progress};
+use dd_slots::Lanes;
 
 pub(crate) struct FileSupply<'a, F: Files> {
     files: &'a mut F,
@@ -90,6 +91,10 @@ impl<F: Files + Progress> Supply for FileSupply<'_, F> {
 
     fn count(&self) -> usize {
         self.counts.len()
+    }
+
+    fn lanes(&self) -> Lanes {
+        self.files.lanes()
     }
 
     fn begin(&mut self, at: usize) -> Result<CountedReader<F::In>, NotThere> {

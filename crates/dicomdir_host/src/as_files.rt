@@ -9,6 +9,7 @@ use crate::opening::Input;
 use crate::system::System;
 use dd_elem::Write;
 use dd_files::{Cause, Files, Hints, LinkFault, NotDone, NotThere, Progress, Step};
+use dd_slots::Lanes;
 use std::fmt::InlineText;
 use std::io;
 
@@ -123,6 +124,10 @@ impl<'a, R: System> Files for HostFiles<'a, R> {
 
     fn unstored(&self) -> &str {
         self.unstored.lost()
+    }
+
+    fn lanes(&self) -> Lanes {
+        self.lanes
     }
 
     ghost same_refusals = { λ _ _ same. same };

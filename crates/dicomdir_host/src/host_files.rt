@@ -15,6 +15,7 @@ use crate::progress_line::ProgressLine;
 use crate::storing::Unstored;
 use crate::system::System;
 use dd_files::{DIRECTORY, NotDone};
+use dd_slots::Lanes;
 use std::alloc::Global;
 use std::io;
 
@@ -63,6 +64,7 @@ pub struct HostFiles<'a, R: System> {
     pub(crate) progress: ProgressLine<R::Terminal>,
     pub(crate) last: &'a LastRefusal,
     pub(crate) refusals: u64,
+    pub(crate) lanes: Lanes,
 }
 
 // By hand, so that dropping it is one call.
@@ -80,6 +82,7 @@ impl<R: System> Drop for HostFiles<'_, R> {
             progress: _progress,
             last: _,
             refusals: _,
+            lanes: _,
         } = self;
     }
 }
@@ -103,7 +106,7 @@ fn has_no_more(error: &io::Error) -> bool {
 
 impl<'a, R: System> HostFiles<'a, R> {
     /// Makes the files of the system; none is being written. What the system refuses is remembered in `last`.
-    pub fn new(alloc: Global, rt: &'a R, last: &'a LastRefusal) -> Self
+    pub fn new(alloc: Global, rt: &'a R, last: &'a LastRefusal, lanes: Lanes) -> Self
         ensures { result.refusals ≡ 0 }
     {
         HostFiles {
@@ -118,6 +121,7 @@ impl<'a, R: System> HostFiles<'a, R> {
             progress: ProgressLine::new(rt.terminal()),
             last,
             refusals: 0,
+            lanes,
         }
     }
 

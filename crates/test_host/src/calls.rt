@@ -4,6 +4,7 @@ use crate::disc::{Call, Disc, DiscFiles};
 use crate::power_cut::Kind;
 use dd_elem::{Read, Write};
 use dd_files::{Files, Hints, LinkFault, Progress, Step};
+use dd_slots::Lanes;
 use dicomdir_host::{HostFiles, LastRefusal};
 use std::alloc::Global;
 use std::cell::RefCell;
@@ -239,7 +240,7 @@ fn tell_all(
 pub(crate) fn in_words(alloc: Global, disc: &RefCell<Disc>, calls: &str) -> Result<String, Fail> {
     let rt = DiscFiles(disc);
     let last = LastRefusal::new();
-    let mut files = HostFiles::new(alloc, &rt, &last);
+    let mut files = HostFiles::new(alloc, &rt, &last, Lanes::Four);
     let mut said = String::new(alloc);
     tell_all(alloc, disc, &mut files, calls, &mut said)?;
     Ok(said)

@@ -3,6 +3,7 @@
 use crate::calls::{all_of, in_words, write_all};
 use crate::disc::{Disc, DiscFiles};
 use dd_files::Files;
+use dd_slots::Lanes;
 use dd_vectors::claim_all;
 use dicomdir_host::{HostFiles, LastRefusal};
 use std::alloc::Global;
@@ -148,7 +149,7 @@ fn comes_back(alloc: Global, bytes: &[u8]) -> Result<bool, Fail> {
     let disc = RefCell::new(Disc::new(alloc)?);
     let rt = DiscFiles(&disc);
     let last = LastRefusal::new();
-    let mut files = HostFiles::new(alloc, &rt, &last);
+    let mut files = HostFiles::new(alloc, &rt, &last, Lanes::Four);
     Ok(is_written(&mut files, bytes) && gives(alloc, &mut files, bytes)?)
 }
 

@@ -4,7 +4,7 @@ ghost use Rattle.std.specs.Prelude.{None, slice_index, slice_index_or};
 use dd_elem::{Counts, FileId, Read, SetId, Uid};
 use dd_layout::Limits;
 use dd_vectors::{ByteSource, ask_all, ends_refused, refuse_allocation, require, v1, v1_with};
-use dicomdir::{Choice, EngineFault, Indexed, NotThere, Supply, index_engine};
+use dicomdir::{Choice, EngineFault, Indexed, Lanes, NotThere, Supply, index_engine};
 use std::alloc::Global;
 use std::io;
 use std::test::Fail;
@@ -76,6 +76,10 @@ impl<'a> Supply for Pair<'a> {
 
     fn count(&self) -> usize {
         2
+    }
+
+    fn lanes(&self) -> Lanes {
+        Lanes::Eight
     }
 
     fn begin(&mut self, at: usize) -> Result<Reader<'a>, NotThere> {

@@ -29,8 +29,8 @@ loop-origin-preserved-in_ok-push g c =
     let m = c.args.best.now in
     let one = c.in-Some-other_of.kept.now in
     ap (map (λ note. says note)) c.in_ok-push.ensures.items
-    ∙ note_more files m (map (λ p. (p.0.now, p.1.now)) c.loop-origin.yielded) (c.in-Some.origin.now, c.in-Some.version.now)
-    c.loop-origin.notes.items (record {
+    ∙ note_more files m (map (λ p. (p.0.now, p.1.now)) c.loop-origin.yielded)
+    (c.in-Some.origin.now, c.in-Some.version.now) c.loop-origin.notes.items (record {
       file = c.in-Some.origin.now;
       kept = c.first_mark.result;
       instance = c.parts.result.now.instance;

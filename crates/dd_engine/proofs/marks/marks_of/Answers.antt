@@ -14,7 +14,8 @@ loop-origin-preserved g c =
     ∙ ap (λ l. l ++ (c.in-Some.origin.now, file_of c.parts-parts.result.now) ∷ []) c.loop-origin.invariant
     ∙ ap (λ v. map (λ p. (p.0.now, file_of p.1.now)) c.loop-origin.yielded ++ (c.in-Some.origin.now, file_of v) ∷ [])
     c.parts-parts.ensures.value
-    ∙ sym (map-append (λ p. (p.0.now, file_of p.1.now)) c.loop-origin.yielded ((c.in-Some.origin, c.in-Some.version) ∷ []))
+    ∙ sym (map-append (λ p. (p.0.now, file_of p.1.now)) c.loop-origin.yielded
+    ((c.in-Some.origin, c.in-Some.version) ∷ []))
 
 pub returns : goal.returns
 returns g c =

@@ -25,7 +25,8 @@ returns-then-is_eq c =
     let point = IsPartitionPoint-from_clause (λ (mention : Mention). is_lt (bytes_cmp mention.uid.now t)) _ _
     c.partition_point-first.ensures.partitioned (parted xs t c.requires) (λ a r q k. search rules) in
     let found = c.in_ok-mention.ensures.lookup in
-    let here : same mention.uid.now t ≡ true = ap is_eq (sym c.compare.ensures) ∙ sym c.is_eq.ensures ∙ c.if-is_eq.true in
+    let here : same mention.uid.now t ≡ true =
+    ap is_eq (sym c.compare.ensures) ∙ sym c.is_eq.ensures ∙ c.if-is_eq.true in
     ap (λ (m : Mention). m.number) found.1
     ∙ first_there xs t i mention point found.3.0
     (subst (λ (m : Mention). same m.uid.now t ≡ true) found.1 here)
@@ -39,6 +40,7 @@ returns-else-is_eq c =
     let point = IsPartitionPoint-from_clause (λ (mention : Mention). is_lt (bytes_cmp mention.uid.now t)) _ _
     c.partition_point-first.ensures.partitioned (parted xs t c.requires) (λ a r q k. search rules) in
     let found = c.in_ok-mention.ensures.lookup in
-    let other : same mention.uid.now t ≡ false = ap is_eq (sym c.compare.ensures) ∙ sym c.is_eq.ensures ∙ c.if-is_eq.false in
+    let other : same mention.uid.now t ≡ false =
+    ap is_eq (sym c.compare.ensures) ∙ sym c.is_eq.ensures ∙ c.if-is_eq.false in
     sym (other_there xs t i mention c.requires point found.3.0
     (subst (λ (m : Mention). same m.uid.now t ≡ false) found.1 other))

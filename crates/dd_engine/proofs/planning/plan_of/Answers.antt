@@ -3,7 +3,8 @@ use Rattle.std.proofs.lemmas.Result.{err_from_is_err_and}
 use Rattle.dd_layout.specs.Plans.{records_of}
 use Rattle.dd_engine.specs.Picking.{taken_of}
 use Rattle.dd_engine.specs.Planned.{kept_in}
-use Rattle.dd_engine.proofs.Planned.{in_harmony, many_planned, picks_are, plan_is, refusal_is, unfound, unpicked, unplanned}
+use Rattle.dd_engine.proofs.Planned.{in_harmony, many_planned, picks_are, plan_is, refusal_is, unfound, unpicked}
+use Rattle.dd_engine.proofs.Planned.{unplanned}
 use Rattle.dd_engine.proofs.planning.plan_of.Goals as goal
 
 pub returns-in_err-changes-clause-refused : goal.returns-in_err-changes-clause-refused
@@ -57,7 +58,8 @@ returns-clause-planned g c =
       allowed = refusal_is basis found harmony are is choice c.args.limits
           ∙ c.in_ok-plan.ensures.allowed (kept_in basis) are.none (in_harmony basis found harmony are is) refl;
       picks = picks_are basis found harmony are is choice plan c.in_ok-picks.picks.items laid
-          (c.in_ok-picks.ensures.all ∙ ap (λ l. taken_of l (records_of plan.label plan.versions)) c.deref.ensures.value);
+          (c.in_ok-picks.ensures.all
+          ∙ ap (λ l. taken_of l (records_of plan.label plan.versions)) c.deref.ensures.value);
       left = are.left;
       names = are.names;
     }

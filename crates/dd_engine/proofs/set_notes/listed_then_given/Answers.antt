@@ -1,4 +1,5 @@
-use Rattle.std.proofs.Common.{◌∷◌, ◌++◌, ◌-◌, ◌≤◌, List, [], ℕ, ◌∙◌, ap, arith, append_assoc, drop, length, map, sym, take}
+use Rattle.std.proofs.Common.{◌∷◌, ◌++◌, ◌-◌, ◌≤◌, List, [], ℕ, ◌∙◌, ap, arith, append_assoc, drop, length, map, sym}
+use Rattle.std.proofs.Common.{take}
 use Rattle.std.specs.Prelude.{None, Some}
 use Rattle.std.proofs.lemmas.List.{append-nil, length-drop, length-take-le, map-append, take_all}
 use Rattle.dd_engine.specs.MergeSteps.{Withdrawal, known_in}

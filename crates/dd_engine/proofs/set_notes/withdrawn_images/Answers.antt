@@ -25,7 +25,8 @@ returns-clause-all c = λ given listings held.
     (λ images is. are_withdrawn given listings c.args.gathered.now
     (first_number (map (λ mention. mention_view mention) c.deref-3.result.now))
     (zip c.deref-5.result.now c.deref-4.result.now) images.items held
-    (λ uid. ap (λ (l : List Mention). first_number (map (λ mention. mention_view mention) l) uid) c.deref-3.ensures.value
+    (λ uid. ap (λ (l : List Mention). first_number (map (λ mention. mention_view mention) l) uid)
+    c.deref-3.ensures.value
     ∙ first_stays c.in_ok-mentions_of.field-0.items c.in_ok-mentions.mentions.items c.in_ok-mentions.ensures.stable uid
     ∙ ap (λ (l : List Withdrawal). first_number l uid) (c.in_ok-mentions_of.ensures
     ∙ ap₂ (λ (a : List (Option ℕ)) (b : List (List ℕ)). zip a b) c.deref-2.ensures.value c.deref.ensures.value))

@@ -29,5 +29,6 @@ returns-clause-settled c closed h =
     let all = c.len.ensures in
     let end = c.loop-at.auto.at-end in
     let over = c.loop-at-test.false in
-    settled h.front _ _ closed _ _ h.pending _ _ _ (d.first, (d.second, (d.third, (d.fourth, tt)))) h.many h.slots h.all
+    settled h.front _ _ closed _ _ h.pending _ _ _
+    (d.first, (d.second, (d.third, (d.fourth, (d.fifth, (d.sixth, (d.seventh, (d.eighth, tt)))))))) h.many h.slots h.all
     h.done (omega (arith, all)) (omega (arith, end, over)) c.loop-at.invariant.digests

@@ -10,6 +10,7 @@ invariant_of-self c =
     let past = c.self.invariant.1 in
     let held = h.held in (
       places_digested c.self.inside.places c.digest.new.self _ c.self.invariant.0 h.held h.first h.second h.third
+          h.fourth h.fifth h.sixth h.seventh
           h.latest,
       omega (arith, past, held),
     )
@@ -17,5 +18,7 @@ invariant_of-self c =
 pub returns : goal.returns
 returns c =
     let h = c.digest.ensures in
-    rw (← c.self.view_is) (ap (λ (files : List Ahead). record { files = files; past = c.self.inside.past; digested = true })
-    (files_digested c.self.inside.places c.digest.new.self h.held h.first h.second h.third h.latest))
+    rw (← c.self.view_is)
+    (ap (λ (files : List Ahead). record { files = files; past = c.self.inside.past; digested = true })
+    (files_digested c.self.inside.places c.digest.new.self h.held h.first h.second h.third h.fourth h.fifth h.sixth
+    h.seventh h.latest))

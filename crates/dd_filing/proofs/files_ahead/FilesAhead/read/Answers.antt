@@ -24,7 +24,8 @@ returns-clause-room g c = λ room.
       answered = (
         known_of c.read.new.self,
         (
-          rw (← c.self.view_is) (next_file c.self.inside.places c.keep.new.self c.read.new.self c.self.inside.past c.self.inside.is_digested _
+          rw (← c.self.view_is) (next_file c.self.inside.places c.keep.new.self c.read.new.self c.self.inside.past
+              c.self.inside.is_digested _
               c.self.invariant.0.0 c.keep.ensures.files refl (rw (← c.self.view_is) at room)),
           h.answered,
         ),

@@ -3,7 +3,7 @@ use Rattle.std.proofs.Common.{arith}
 use Rattle.sha2.specs.Sha256.{sha256}
 use Rattle.dd_report.specs.Batches.{digest_line, report_of}
 use Rattle.dd_report.specs.declared.batch.PendingFile.{PendingFile}
-use Rattle.dd_report.proofs.Batching.{adds_all, next_settles, next_waits, none_ready}
+use Rattle.dd_report.proofs.Batching.{adds_all, at_most_eight, next_settles, next_waits, none_ready}
 use Rattle.dd_report.proofs.batch.Batch.add.Goals as goal
 
 pub shift-requires : goal.shift-requires
@@ -16,11 +16,11 @@ settle_all-requires g c =
     next_settles c.args.self.now c.shift.new.self next c.requires.ready c.requires.whole c.shift.ensures.used
     c.shift.ensures.files
 
-pub returns-then-self-eq4-clause-ready : goal.returns-then-self-eq4-clause-ready
-returns-then-self-eq4-clause-ready g c = none_ready c.settle_all.new.self c.settle_all.ensures.used
+pub returns-then-self-count-clause-ready : goal.returns-then-self-count-clause-ready
+returns-then-self-count-clause-ready g c = none_ready c.settle_all.new.self c.settle_all.ensures.used
 
-pub returns-then-self-eq4-clause-added : goal.returns-then-self-eq4-clause-added
-returns-then-self-eq4-clause-added g c =
+pub returns-then-self-count-clause-added : goal.returns-then-self-count-clause-added
+returns-then-self-count-clause-added g c =
     let next : PendingFile =
     record { slot = c.args.self.now.next.slot; named = c.args.named; expected = c.args.expected } in
     adds_all c.settle_all.result (digest_line c.args.named c.args.expected (sha256 next.slot.kept.items))
@@ -29,18 +29,19 @@ returns-then-self-eq4-clause-added g c =
     (next_waits g.W.Write c.args.lines.now c.args.self.now c.shift.new.self next c.requires.ready c.shift.ensures.files
     c.shift.ensures.found) c.settle_all.ensures.settled
 
-pub returns-else-self-eq4-clause-ready : goal.returns-else-self-eq4-clause-ready
-returns-else-self-eq4-clause-ready g c =
+pub returns-else-self-count-clause-ready : goal.returns-else-self-count-clause-ready
+returns-else-self-count-clause-ready g c =
     let next : PendingFile =
     record { slot = c.args.self.now.next.slot; named = c.args.named; expected = c.args.expected } in
     let can = next_settles c.args.self.now c.shift.new.self next c.requires.ready c.requires.whole c.shift.ensures.used
     c.shift.ensures.files in
-    let few = can.0 in
-    let less = c.if-self-eq4.false in
-    (omega (arith, few, less), can.1)
+    let count = c.count.ensures in
+    let most = at_most_eight c.shift.new.self.lanes in
+    let less = c.if-self-count.false in
+    (omega (arith, count, most, less), can.1)
 
-pub returns-else-self-eq4-clause-added : goal.returns-else-self-eq4-clause-added
-returns-else-self-eq4-clause-added g c =
+pub returns-else-self-count-clause-added : goal.returns-else-self-count-clause-added
+returns-else-self-count-clause-added g c =
     let next : PendingFile =
     record { slot = c.args.self.now.next.slot; named = c.args.named; expected = c.args.expected } in
     next_waits g.W.Write c.args.lines.now c.args.self.now c.shift.new.self next c.requires.ready c.shift.ensures.files

@@ -22,9 +22,11 @@ loop-at-preserved g c =
     let batch = c.args.self.now in
     let one = c.file_at.result.now in
     let d = c.digest_slots.ensures in
-    let digest = c.digest_slots.result in
-    let digests = digest.0 ∷ digest.1 ∷ digest.2 ∷ digest.3 ∷ [] in
-    let are : AreDigests (files_of batch) digests = (d.first, (d.second, (d.third, (d.fourth, tt)))) in
+    let front = c.digest_slots.result.0 in
+    let back = c.digest_slots.result.1 in
+    let digests = front.0 ∷ front.1 ∷ front.2 ∷ front.3 ∷ back.0 ∷ back.1 ∷ back.2 ∷ back.3 ∷ [] in
+    let are : AreDigests (files_of batch) digests =
+    (d.first, (d.second, (d.third, (d.fourth, (d.fifth, (d.sixth, (d.seventh, (d.eighth, tt)))))))) in
     let many = pending_count batch c.requires in
     let below = c.loop-at-test.true in
     let is = piece_is batch digests c.loop-at.at one _ are c.requires below
@@ -48,9 +50,11 @@ returns-in_err-found-clause-told g c =
     let batch = c.args.self.now in
     let one = c.file_at.result.now in
     let d = c.digest_slots.ensures in
-    let digest = c.digest_slots.result in
-    let digests = digest.0 ∷ digest.1 ∷ digest.2 ∷ digest.3 ∷ [] in
-    let are : AreDigests (files_of batch) digests = (d.first, (d.second, (d.third, (d.fourth, tt)))) in
+    let front = c.digest_slots.result.0 in
+    let back = c.digest_slots.result.1 in
+    let digests = front.0 ∷ front.1 ∷ front.2 ∷ front.3 ∷ back.0 ∷ back.1 ∷ back.2 ∷ back.3 ∷ [] in
+    let are : AreDigests (files_of batch) digests =
+    (d.first, (d.second, (d.third, (d.fourth, (d.fifth, (d.sixth, (d.seventh, (d.eighth, tt)))))))) in
     let many = pending_count batch c.requires in
     let below = c.loop-at-test.true in
     went_fails c.from_residual.result pending_line (pending_files batch) c.loop-at.at one _ (pending_text batch) _ _ _
