@@ -201,6 +201,8 @@ stands_whole From folder plan picks (Some old) new made =
       place = made.place;
       free = free_before old all.after made.path all.stays free;
       directory = file_here made.path (Some text) all.after.bytes_at;
+      visited = made.visited;
+      again = made.again;
       others = λ other apart none. file_there made.path other (Some text) all.after.bytes_at apart
           ∙ all.others other none;
     })

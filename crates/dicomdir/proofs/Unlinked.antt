@@ -52,6 +52,8 @@ module _ {P : Type 0} (From To : P → List ℕ → Type 0) (same : (pick : P) (
     place = made.place;
     free = made.free;
     directory = made.directory;
+    visited = made.visited;
+    again = made.again;
   }
 
 -- images that get no hard links are copies, whatever they may be links of

@@ -2,8 +2,14 @@
 -- record by record, and then the directory.
 use Rattle.std.specs.Prelude.{◌≡◌, ◌⊎◌, ◌<◌, ℕ, List, [], ◌∷◌, All, filter, zip, Option, None, Some, is_some}
 use Rattle.std.specs.Prelude.{IfSome, IsSome, codes, option_map, slice_get, slice_index_or}
+use Rattle.dd_catalogue.specs.Best.{IsRising}
+use Rattle.dd_catalogue.specs.Harmony.{harmonised}
+use Rattle.dd_catalogue.specs.Versions.{IsCatalogue}
 use Rattle.dd_dir.specs.Directories.{directory_of}
+use Rattle.dd_dir.specs.SaysItself.{SaysItself}
+use Rattle.dd_dir.specs.Visits.{Realises}
 use Rattle.dd_elem.specs.FileId.{Ranks, text_of}
+use Rattle.dd_elem.specs.Ordered.{bytes_cmp}
 use Rattle.dd_engine.specs.declared.merge.Pick.{Pick}
 use Rattle.dd_files.specs.Files.{Held, linked, published, started}
 use Rattle.dd_files.specs.Paths.{IsPathIn, id_path}
@@ -100,6 +106,18 @@ abbrev pub IsMemberPath : List (List ℕ) → Pick → List ℕ → Type 0
 IsMemberPath folders pick path = All (λ byte. byte < 128) pick.file.now
     → IsPathIn (slice_index_or folders pick.set []) (id_path pick.file.now) path
 
+-- Where the plan has the versions of a catalogue in harmony, following the offsets of its directory visits each of them
+-- exactly once, and nothing else.
+abbrev pub RealisesPlan : Layout → Type 0
+RealisesPlan plan = (m : List Parts) → IsCatalogue m → plan.versions ≡ harmonised m
+    → Realises plan.label m (directory_of plan.label plan.versions plan.withdrawn)
+
+-- and where its withdrawn UIDs rise, its directory says the versions and these UIDs again
+abbrev pub SaysPlan : Layout → Type 0
+SaysPlan plan = (m : List Parts) → IsCatalogue m → plan.versions ≡ harmonised m
+    → IsRising (λ uid. uid) bytes_cmp plan.withdrawn
+    → SaysItself m plan.withdrawn (directory_of plan.label plan.versions plan.withdrawn)
+
 -- the images of the records of the plan were made in the folder, one for each pick, and then its directory (PS3.10
 -- section 8.6)
 pub record MakesFileSet {P : Type 0} (From : P → List ℕ → Type 0) (folder : List ℕ) (plan : Layout) (picks : List P)
@@ -110,6 +128,8 @@ pub record MakesFileSet {P : Type 0} (From : P → List ℕ → Type 0) (folder 
   pub place : IsPathIn folder (codes "DICOMDIR") path
   pub free : IsFree path copied
   pub directory : new ≡ option_map (published path (directory_of plan.label plan.versions plan.withdrawn)) copied
+  pub visited : RealisesPlan plan
+  pub again : SaysPlan plan
 
 -- the command did its work, whatever it found
 abbrev pub IsDone : ℕ → Type 0

@@ -11,7 +11,7 @@ use Rattle.dd_version.specs.declared.parts.Parts.{Parts}
 use Rattle.dd_layout.specs.declared.record.PlanRecord.{PlanRecord}
 use Rattle.dd_layout.specs.Layouts.{Layout}
 use Rattle.dd_layout.specs.Plans.{records_of}
-use Rattle.dicomdir.specs.Made.{IsPlace}
+use Rattle.dicomdir.specs.Made.{IsPlace, RealisesPlan, SaysPlan}
 
 -- this is so of what the files held and of what they hold, where they say it
 abbrev pub IfSaid : (Held → Held → Type 0) → Option Held → Option Held → Type 0
@@ -76,5 +76,7 @@ pub record StandsWhole {P : Type 0} (From : P → List ℕ → Type 0) (folder :
   pub place : IsPathIn folder (codes "DICOMDIR") path
   pub free : old.bytes_at path ≡ None
   pub directory : new.bytes_at path ≡ Some (directory_of plan.label plan.versions plan.withdrawn)
+  pub visited : RealisesPlan plan
+  pub again : SaysPlan plan
   pub others : (other : List ℕ) → path ≢ other → ¬ IsOfOne folder (picked_rows plan picks) other
       → new.bytes_at other ≡ old.bytes_at other

@@ -2,7 +2,7 @@ ghost use Rattle.std.specs.Prelude.{◌≡◌, ℕ, All, IfErr, IsErr, IsOk, opt
 ghost use Rattle.dd_dir.specs.Directories.{directory_of};
 ghost use Rattle.dd_elem.specs.Device.{counted, HasFailed};
 ghost use Rattle.dd_files.specs.Files.{ended, grown, published, started};
-ghost use Rattle.dicomdir.specs.Made.{IsFree, MakesFileSet, MayLink};
+ghost use Rattle.dicomdir.specs.Made.{IsFree, MakesFileSet, MayLink, RealisesPlan, SaysPlan};
 ghost use Rattle.dicomdir.specs.Refusal.{IsBadLine, IsOfWork};
 
 use crate::copies::copy_images;
@@ -90,6 +90,8 @@ fn make_directory<F: Files>(path: &str, plan: &Plan, files: &mut F) -> Result<()
         ≡ option_map
         (published path.now (directory_of plan.now.label plan.now.versions plan.now.withdrawn))
         (F.held files.old) }
+    ensures visited { IsOk result → RealisesPlan plan.now }
+    ensures again { IsOk result → SaysPlan plan.now }
 {
     start_directory(path, files)?;
     send_directory(plan, files)?;
@@ -116,6 +118,8 @@ fn send_directory<F: Files>(plan: &Plan, files: &mut F) -> Result<(), ProgramFau
     ensures holds { IsOk result → F.held files.new
         ≡ option_map (grown (directory_of plan.now.label plan.now.versions plan.now.withdrawn))
         (F.held files.old) }
+    ensures visited { IsOk result → RealisesPlan plan.now }
+    ensures again { IsOk result → SaysPlan plan.now }
 {
     match write_directory(plan, files) {
         Ok(_) => Ok(()),

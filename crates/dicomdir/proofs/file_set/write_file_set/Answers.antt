@@ -13,4 +13,6 @@ returns-clause-made g c = λ done. record {
   free = rw (c.in_ok-store.ensures.kept, c.folder.ensures.kept) at c.in-Ok.ensures.free cc;
   directory = c.hide_line.ensures.kept ∙ c.in_ok-store-2.ensures.kept
       ∙ (rw (c.in_ok-store.ensures.kept, c.folder.ensures.kept) at c.in-Ok.ensures.holds cc);
+  visited = c.in-Ok.ensures.visited cc;
+  again = c.in-Ok.ensures.again cc;
 }

@@ -1,0 +1,6 @@
+use Rattle.dicomdir.proofs.SetAgain.{merged_again}
+use Rattle.dicomdir.proofs.laws.a_set_merged_again_keeps_its_directory.Goals as goal
+
+pub returns : goal.returns
+returns c = λ verb given others old new first last made also choice copies.
+    merged_again verb given others old new first last made also choice copies

@@ -1,0 +1,134 @@
+-- What the files say that a command reads, and what stands in OUT once it has made its file-set.
+use Rattle.std.specs.Prelude.{◌≡◌, ◌≢◌, ◌↔◌, ◌⊎◌, ◌≤◌, ℕ, List, [], Contains, Some, false, length, map}
+use Rattle.std.specs.Str.{IsUtf8}
+use Rattle.clap.specs.Takes.{is_given}
+use Rattle.clap.specs.Words.{Row, Text, first_of}
+use Rattle.dd_catalogue.specs.Contents.{Contents, held_of}
+use Rattle.dd_dir.specs.OwnVersions.{version_of}
+use Rattle.dd_dir.specs.SaysItself.{SaysItself}
+use Rattle.dd_dir.specs.Visits.{Realises}
+use Rattle.dd_engine.specs.Choosing.{label_for}
+use Rattle.dd_engine.specs.Merging.{IsOwn, SetListing}
+use Rattle.dd_files.specs.Files.{Held}
+use Rattle.dd_keys.specs.Versions.{IsVersion}
+use Rattle.dd_line.specs.Line.{files0_from_name, given_for, instance_name, keep_going_name, out_name, set_name}
+use Rattle.dd_line.specs.Line.{source_name}
+use Rattle.dd_line.specs.Requests.{IsOnly}
+use Rattle.dd_line.specs.declared.line.Verb.{Verb}
+use Rattle.dd_line.specs.declared.line.Verb.TheVariants.{Check, Index, List as ListSet, Merge, Withdraw}
+use Rattle.dd_version.specs.declared.parts.Parts.{Parts}
+use Rattle.dicomdir.specs.Indexes.{most_of_source}
+use Rattle.dicomdir.specs.Lines.{IndexesRows, MergesRows, WithdrawsRows, choice_of}
+use Rattle.dicomdir.specs.ListedNames.{AreSources}
+use Rattle.dicomdir.specs.Merges.{HasDirectory}
+
+-- ---- what the files say
+
+-- A file at one of these paths is a file of this version, and no longer than a source may be. A name that is not UTF-8
+-- is no path.
+pub record OneFileSays (names : List Text) (held : Held) (version : Parts) : Type 0 where
+  pub name : Text
+  pub among : Contains names name
+  pub path : IsUtf8 name
+  pub file : List ℕ
+  pub there : held.bytes_at name ≡ Some file
+  pub short : length file ≤ most_of_source
+  pub right : IsVersion file version
+
+-- the directory of a file-set in one of these folders says this of what it lists and withdraws (PS3.10 section 8.6)
+pub record OneSetSays (folders : List Text) (held : Held) (Says : SetListing → Type 0) : Type 0 where
+  pub folder : Text
+  pub among : Contains folders folder
+  pub bytes : List ℕ
+  pub directory : HasDirectory folder bytes (Some held)
+  pub listing : SetListing
+  pub own : IsOwn bytes listing
+  pub says : Says listing
+
+-- it lists an image of this version, or withdraws this SOP Instance UID (PS3.3 section C.12.1)
+abbrev pub Lists : Parts → SetListing → Type 0
+Lists version listing = Contains (map version_of listing.images) version
+
+abbrev pub Names : List ℕ → SetListing → Type 0
+Names uid listing = Contains listing.withdrawn uid
+
+-- the sources that `index` is given, and the folders that `merge` is given
+abbrev pub AreGivenSources : List Row → Held → List Text → Type 0
+AreGivenSources given held sources = AreSources (is_given keep_going_name given) (first_of files0_from_name given)
+    (given_for source_name given) (Some held) sources
+
+abbrev pub AreGivenFolders : List Row → Held → List Text → Type 0
+AreGivenFolders given held folders =
+    AreSources false (first_of files0_from_name given) (given_for set_name given) (Some held) folders
+
+-- what the command reads says that there is this version
+abbrev pub SaysVersion : Verb → List Row → Held → Parts → Type 0
+SaysVersion Index given held version =
+    (names : List Text) × AreGivenSources given held names × OneFileSays names held version
+SaysVersion Merge given held version =
+    (folders : List Text) × AreGivenFolders given held folders × OneSetSays folders held (Lists version)
+SaysVersion Withdraw given held version = OneSetSays (given_for set_name given) held (Lists version)
+SaysVersion Check given held version = ⊥
+SaysVersion ListSet given held version = ⊥
+
+-- this UID is withdrawn, by what it reads or by its words
+abbrev pub Withdraws : Verb → List Row → Held → List ℕ → Type 0
+Withdraws Index given held uid = ⊥
+Withdraws Merge given held uid =
+    (folders : List Text) × AreGivenFolders given held folders × OneSetSays folders held (Names uid)
+Withdraws Withdraw given held uid =
+    Contains (given_for instance_name given) uid ⊎ OneSetSays (given_for set_name given) held (Names uid)
+Withdraws Check given held uid = ⊥
+Withdraws ListSet given held uid = ⊥
+
+-- ---- what stands in OUT
+
+-- the command, with these words, ended with 0 and made what `run` says of it
+abbrev pub Makes : Verb → List Row → Held → Held → Type 0
+Makes Index given old new = IndexesRows given 0 (Some old) (Some new)
+Makes Merge given old new = MergesRows given (Some old) (Some new)
+Makes Withdraw given old new = WithdrawsRows given (Some old) (Some new)
+Makes Check given old new = ⊥
+Makes ListSet given old new = ⊥
+
+-- OUT/DICOMDIR has these bytes
+pub record LeavesDirectory (given : List Row) (bytes : List ℕ) (new : Held) : Type 0 where
+  pub folder : Text
+  pub out : IsOnly out_name given folder
+  pub stands : HasDirectory folder bytes (Some new)
+
+-- two commands gave their file-sets one directory, byte for byte
+abbrev pub LeaveOneDirectory : List Row → List Row → Held → Held → Type 0
+LeaveOneDirectory given others new last =
+    (bytes : List ℕ) × LeavesDirectory given bytes new × LeavesDirectory others bytes last
+
+-- ---- what two commands have in common
+
+-- what two commands read says the same versions and the same withdrawn UIDs
+pub record SayTheSame (verb other : Verb) (given others : List Row) (old first : Held) : Type 0 where
+  pub versions : (version : Parts) → SaysVersion verb given old version ↔ SaysVersion other others first version
+  pub withdrawn : (uid : List ℕ) → Withdraws verb given old uid ↔ Withdraws other others first uid
+
+-- Each set that `merge` is given, of which there is one at least, has the directory that another command left.
+pub record MergesCopies (given others : List Row) (new first : Held) : Type 0 where
+  pub bytes : List ℕ
+  pub left : LeavesDirectory given bytes new
+  pub folders : List Text
+  pub are : AreGivenFolders others first folders
+  pub some : folders ≢ []
+  pub each : (folder : Text) → Contains folders folder → HasDirectory folder bytes (Some first)
+
+-- ---- what a directory lists
+
+-- These are the versions and the withdrawn UIDs that are said. What a catalogue holds of them is what OUT/DICOMDIR
+-- lists: following its offsets from the root visits each kept instance exactly once, beneath its own series, study and
+-- patient, and nothing else. Read again, it says its versions and its withdrawn UIDs.
+pub record ListsKept (verb : Verb) (given : List Row) (old new : Held) : Type 0 where
+  pub taken : Contents
+  pub versions : (version : Parts) → Contains taken.versions version ↔ SaysVersion verb given old version
+  pub withdrawn : (uid : List ℕ) → Contains taken.withdrawn uid ↔ Withdraws verb given old uid
+  pub bytes : List ℕ
+  pub directory : LeavesDirectory given bytes new
+  pub visited : let h = held_of taken in
+      Realises (label_for (choice_of given) h.versions h.withdrawn) h.versions bytes
+  pub again : let h = held_of taken in SaysItself h.versions h.withdrawn bytes
