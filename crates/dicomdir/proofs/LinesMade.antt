@@ -20,7 +20,7 @@ use Rattle.dicomdir.specs.Words.{MakesRequested}
 
 -- ---- a command that is done
 
-unlike_one : (status : ℕ) → IsDone status → status ≢ 1
+pub unlike_one : (status : ℕ) → IsDone status → status ≢ 1
 unlike_one status (inl zero) one = absurd (omega (arith, zero, one))
 unlike_one status (inr three) one = absurd (omega (arith, three, one))
 
@@ -30,7 +30,7 @@ pub index_done : {E : Type 0} (r : Result ℕ E) (choice : Choice) (bytes : ℕ)
 index_done (Ok status) choice bytes sources folder old new made = λ done. made (unlike_one status done)
 index_done (Err refusal) choice bytes sources folder old new made = tt
 
-zero_of_two : (status : ℕ) → status ≤ 1 → IsDone status → status ≡ 0
+pub zero_of_two : (status : ℕ) → status ≤ 1 → IsDone status → status ≡ 0
 zero_of_two status few (inl zero) = zero
 zero_of_two status few (inr three) = absurd (omega (arith, three, few))
 
@@ -50,7 +50,7 @@ MakesAsked r status old new =
     MakesRequested r (choice_by (id_of r) (uid_of r)) (words_of (instances_of r)) status old new
 
 -- the names of two commands begin with letters of their own
-unlike : {A : Type 0} (one other : Text) → one ≡ other → ¬ (get_or one 0 0 ≡ get_or other 0 0) → A
+pub unlike : {A : Type 0} (one other : Text) → one ≡ other → ¬ (get_or one 0 0 ≡ get_or other 0 0) → A
 unlike one other same apart = absurd (apart (ap (λ (name : Text). get_or name 0 0) same))
 
 pub given_index : (r : Request) (found : Option (Text × List Row)) (status : ℕ) (old new : Option Held)

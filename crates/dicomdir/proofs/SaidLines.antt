@@ -5,10 +5,12 @@ use Rattle.std.proofs.KnownBytes.{Appends-nil, Appends-trans}
 use Rattle.std.proofs.lemmas.List.{take_more}
 use Rattle.std.specs.Prelude.{IsOk, OnOk, Result, Ok, Err}
 use Rattle.dd_engine.specs.declared.noted_index.NotedIndex.{NotedIndex}
+use Rattle.dd_engine.specs.declared.noted_merge.NotedMerge.{NotedMerge}
 use Rattle.dd_elem.specs.declared.device.Write.{Ghosts as WriteOf}
 use Rattle.dd_lines.specs.Text.{TakesText, masked}
 use Rattle.dd_json.specs.declared.value.Style.{Style}
-use Rattle.dicomdir.specs.Said.{AreLines, IsLeftOut, IsNames, IsSkip, SaysNotes, left_out_words, path_at, said_line}
+use Rattle.dicomdir.specs.Said.{AreLines, IsLeftOut, IsNames, IsSkip, IsUnlisted, IsUnreached, SaysNotes, SaysSetNotes}
+use Rattle.dicomdir.specs.Said.{ShowsMember, left_out_words, path_at, said_line}
 
 -- a line after all others
 lines_push : {T : Type 0} (IsLine : T → List ℕ → Type 0) (xs : List T) (x : T) (text line : List ℕ)
@@ -70,7 +72,7 @@ on_ok_gives (Err e) ok holds = absurd cc
 
 -- ---- one text after another
 
-takes_both : {W : Type 0} (writer : WriteOf W) (a b c : W) (one two : List ℕ) → TakesText writer a b one
+pub takes_both : {W : Type 0} (writer : WriteOf W) (a b c : W) (one two : List ℕ) → TakesText writer a b one
     → TakesText writer b c two → TakesText writer a c (one ++ two)
 takes_both writer a b c one two first next = (
   next.0 ∙ first.0,
@@ -96,4 +98,31 @@ notes_said writer style sources noted a b c d (skips, skipped, one) (left, left_
       says,
       takes_both writer a b d skips (left ++ names) one
           (takes_both writer b c d left names two three),
+    )
+
+pub set_notes_said : {W : Type 0} (writer : WriteOf W) (style : Style) (folders : List (List ℕ)) (noted : NotedMerge)
+    (a b c still d e : W) → SaidTo writer (IsUnreached style folders) noted.sets.unreached.items a b
+    → SaidTo writer (IsLeftOut style (ShowsMember folders)) noted.notes.left_out.items b c → still ≡ c
+    → SaidTo writer (IsUnlisted style) noted.sets.unlisted.items still d
+    → SaidTo writer (IsNames style) noted.notes.names.items d e
+    → (text : List ℕ) × SaysSetNotes style folders noted text × TakesText writer a e text
+set_notes_said {W = W} writer style folders noted a b c still d e (unreached, first, one) (left, left_out, two) same
+    (unlisted, third, three) (names, named, four) =
+    let says : SaysSetNotes style folders noted (unreached ++ (left ++ (unlisted ++ names))) = record {
+      unreached = unreached;
+      are_unreached = first;
+      left = left;
+      left_out = left_out;
+      unlisted = unlisted;
+      are_unlisted = third;
+      names = names;
+      named = named;
+      is = refl;
+    } in (
+      unreached ++ (left ++ (unlisted ++ names)),
+      says,
+      takes_both writer a b e unreached (left ++ (unlisted ++ names)) one
+          (takes_both writer b c e left (unlisted ++ names) two
+          (takes_both writer c d e unlisted names
+          (subst (λ (from : W). TakesText writer from d unlisted) same three) four)),
     )

@@ -3,6 +3,7 @@ pub mod Done
 pub mod DryRun
 pub mod EmptyPaths
 pub mod FileSupply
+pub mod Headline
 pub mod Indexes
 pub mod Inspecting
 pub mod Lines
@@ -13,6 +14,7 @@ pub mod Merges
 pub mod Mistakes
 pub mod Names
 pub mod Noted
+pub mod Prints
 pub mod Refusal
 pub mod Said
 pub mod Standing

@@ -1,17 +1,21 @@
--- What a command that makes a file-set makes, by the words of its line.
+-- What a command that makes a file-set makes and prints, by the words of its line.
 use Rattle.std.specs.Prelude.{◌≡◌, ℕ, List, [], Option, None, Some, false, true}
 use Rattle.clap.specs.Takes.{is_given}
 use Rattle.clap.specs.Words.{Row, Text, first_of}
 use Rattle.dd_engine.specs.declared.choice.Choice.{Choice}
+use Rattle.dd_elem.specs.declared.device.Write.{Ghosts as WriteOf}
 use Rattle.dd_files.specs.Files.{Held}
-use Rattle.dd_line.specs.Line.{IsLimit, files0_from_name, given_for, id_name, instance_name, keep_going_name, link_name}
-use Rattle.dd_line.specs.Line.{max_bytes_name, out_name, set_name, source_name, uid_name, verb_name}
+use Rattle.dd_line.specs.Line.{IsLimit, dry_run_name, files0_from_name, given_for, id_name, instance_name, json_name}
+use Rattle.dd_line.specs.Line.{keep_going_name, link_name, max_bytes_name, out_name, set_name, source_name, uid_name}
+use Rattle.dd_line.specs.Line.{strict_name, verb_name}
 use Rattle.dd_line.specs.Requests.{IsOnly}
 use Rattle.dd_line.specs.declared.line.Verb.TheVariants.{Index, Merge, Withdraw}
 use Rattle.dicomdir.specs.Indexes.{MakesIndex}
+use Rattle.dicomdir.specs.Inspecting.{style_by}
 use Rattle.dicomdir.specs.ListedNames.{AreSources}
 use Rattle.dicomdir.specs.Merges.{MakesMerge}
 use Rattle.dicomdir.specs.Names.{choice_by}
+use Rattle.dicomdir.specs.Prints.{PrintsIndex, PrintsMerge}
 
 -- the words name this command
 abbrev pub IsIndex : Option (Text × List Row) → Type 0
@@ -74,3 +78,47 @@ MergesLine (Some (command, given)) old new = MergesRows given old new
 abbrev pub WithdrawsLine : Option (Text × List Row) → Option Held → Option Held → Type 0
 WithdrawsLine None old new = ⊥
 WithdrawsLine (Some (command, given)) old new = WithdrawsRows given old new
+
+-- ---- what it prints
+
+-- `index` printed this of the files at its sources, in the style that the words ask for
+pub record SaysOfSources {W : Type 0} (writer : WriteOf W) (given : List Row) (status : ℕ) (files : Option Held)
+    (old new : W) : Type 0 where
+  pub bytes : ℕ
+  pub limit : IsLimit (first_of max_bytes_name given) bytes
+  pub sources : List Text
+  pub are : AreSources (is_given keep_going_name given) (first_of files0_from_name given)
+      (given_for source_name given) files sources
+  pub says : PrintsIndex writer (style_by (is_given json_name given)) (is_given dry_run_name given)
+      (is_given strict_name given) (is_given keep_going_name given) (choice_of given) bytes sources status files old new
+
+-- `merge` printed this of the file-sets in its folders
+pub record SaysOfSets {W : Type 0} (writer : WriteOf W) (given : List Row) (files : Option Held) (old new : W)
+    : Type 0 where
+  pub bytes : ℕ
+  pub limit : IsLimit (first_of max_bytes_name given) bytes
+  pub folders : List Text
+  pub are : AreSources false (first_of files0_from_name given) (given_for set_name given) files folders
+  pub says : PrintsMerge writer (style_by (is_given json_name given)) (is_given dry_run_name given)
+      (is_given strict_name given) (choice_of given) bytes [] folders files old new
+
+-- `withdraw` printed this of the file-set in its folder, without the instances that it was given
+pub record SaysOfSet {W : Type 0} (writer : WriteOf W) (given : List Row) (files : Option Held) (old new : W)
+    : Type 0 where
+  pub bytes : ℕ
+  pub limit : IsLimit (first_of max_bytes_name given) bytes
+  pub says : PrintsMerge writer (style_by (is_given json_name given)) (is_given dry_run_name given)
+      (is_given strict_name given) (choice_of given) bytes (given_for instance_name given) (given_for set_name given)
+      files old new
+
+abbrev pub IndexSays : {W : Type 0} → WriteOf W → Option (Text × List Row) → ℕ → Option Held → W → W → Type 0
+IndexSays writer None status files old new = ⊥
+IndexSays writer (Some (command, given)) status files old new = SaysOfSources writer given status files old new
+
+abbrev pub MergeSays : {W : Type 0} → WriteOf W → Option (Text × List Row) → Option Held → W → W → Type 0
+MergeSays writer None files old new = ⊥
+MergeSays writer (Some (command, given)) files old new = SaysOfSets writer given files old new
+
+abbrev pub WithdrawSays : {W : Type 0} → WriteOf W → Option (Text × List Row) → Option Held → W → W → Type 0
+WithdrawSays writer None files old new = ⊥
+WithdrawSays writer (Some (command, given)) files old new = SaysOfSet writer given files old new

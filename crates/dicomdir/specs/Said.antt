@@ -1,11 +1,14 @@
 -- The lines that `index`, `merge` and `withdraw` print before they make anything, in words or as JSON objects (RFC
 -- 8259).
 use Rattle.std.specs.Prelude.{◌≡◌, ℕ, List, [], ◌∷◌, ◌++◌, codes, length, slice_index_or}
+use Rattle.std.specs.Fmt.{decimal}
 use Rattle.std.specs.Fmt.InlineText.{inline_text}
 use Rattle.std.specs.List.{concat}
 use Rattle.dd_engine.specs.declared.merge.Pick.{Pick}
 use Rattle.dd_engine.specs.declared.noted_index.NotedIndex.{NotedIndex}
+use Rattle.dd_engine.specs.declared.noted_merge.NotedMerge.{NotedMerge}
 use Rattle.dd_engine.specs.declared.notes.LeftOut.{LeftOut}
+use Rattle.dd_engine.specs.declared.set_notes.Unreached.{Unreached}
 use Rattle.dd_engine.specs.PatientNames.{NamedPatient}
 use Rattle.dd_json.specs.declared.value.Style.{Style}
 use Rattle.dd_json.specs.declared.value.Style.TheVariants.{Text, Json}
@@ -116,3 +119,48 @@ pub record SaysNotes (style : Style) (sources : List (List ℕ)) (noted : NotedI
   pub names : List ℕ
   pub named : AreLines (IsNames style) noted.notes.names.items names
   pub is : text ≡ skips ++ (left ++ names)
+
+-- ---- the line of a file-set with records that are not reached
+
+-- it has its folder, and how many there are
+abbrev pub unreached_words : List ℕ → ℕ → List ℕ
+unreached_words folder records = said_line (codes "NOTE " ∷ folder ∷ codes ": " ∷ decimal records
+    ∷ codes " records are not reached" ∷ [])
+
+abbrev pub unreached_json : List ℕ → ℕ → Data
+unreached_json folder records =
+    note_json (codes "unreached") ((codes "path", string folder) ∷ (codes "records", count records) ∷ [])
+
+abbrev pub unreached_line : Style → List ℕ → ℕ → List ℕ
+unreached_line Text folder records = unreached_words folder records
+unreached_line Json folder records = json_line (unreached_json folder records)
+
+abbrev pub IsUnreached : Style → List (List ℕ) → Unreached → List ℕ → Type 0
+IsUnreached style folders note line = line ≡ unreached_line style (path_at folders note.set) note.records
+
+-- ---- the line of a given UID in no record
+
+abbrev pub unlisted_json : List ℕ → Data
+unlisted_json uid = note_json (codes "unlisted") ((codes "uid", string uid) ∷ [])
+
+abbrev pub unlisted_line : Style → List ℕ → List ℕ
+unlisted_line Text uid = said_line (codes "NOTE -: " ∷ uid ∷ codes " is in no record" ∷ [])
+unlisted_line Json uid = json_line (unlisted_json uid)
+
+abbrev pub IsUnlisted : Style → List ℕ → List ℕ → Type 0
+IsUnlisted style uid line = line ≡ unlisted_line style uid
+
+-- ---- what `merge` and `withdraw` say
+
+-- A line for each file-set with records that are not reached, then one for each file that is left out, one for each
+-- given UID in no record, and one for each Patient ID with more than one name. What is withdrawn has no line.
+pub record SaysSetNotes (style : Style) (folders : List (List ℕ)) (noted : NotedMerge) (text : List ℕ) : Type 0 where
+  pub unreached : List ℕ
+  pub are_unreached : AreLines (IsUnreached style folders) noted.sets.unreached.items unreached
+  pub left : List ℕ
+  pub left_out : AreLines (IsLeftOut style (ShowsMember folders)) noted.notes.left_out.items left
+  pub unlisted : List ℕ
+  pub are_unlisted : AreLines (IsUnlisted style) noted.sets.unlisted.items unlisted
+  pub names : List ℕ
+  pub named : AreLines (IsNames style) noted.notes.names.items names
+  pub is : text ≡ unreached ++ (left ++ (unlisted ++ names))

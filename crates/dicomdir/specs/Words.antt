@@ -2,6 +2,7 @@
 use Rattle.std.specs.Prelude.{◌≡◌, ◌≤◌, ◌⊎◌, ℕ, List, [], ◌∷◌, Option, String, string_bytes, true}
 use Rattle.clap.specs.Words.{Row, Text, subcommand_of, takes}
 use Rattle.dd_engine.specs.declared.choice.Choice.{Choice}
+use Rattle.dd_elem.specs.declared.device.Write.{Ghosts as WriteOf}
 use Rattle.dd_files.specs.Files.{Held}
 use Rattle.dd_line.specs.Line.{dicomdir_app, words_of}
 use Rattle.dd_line.specs.Requests.{RequestsBadName, keeps_going, read_of, verb_of}
@@ -9,8 +10,10 @@ use Rattle.dd_line.specs.declared.line.Verb.TheVariants as verbs
 use Rattle.dd_line.specs.declared.request.Request.{Request}
 use Rattle.dd_line.specs.declared.request.Request.TheVariants.{Check, Index, List as ListSet, Merge, Withdraw}
 use Rattle.dicomdir.specs.Indexes.{MakesIndex}
+use Rattle.dicomdir.specs.Inspecting.{style_by}
 use Rattle.dicomdir.specs.ListedNames.{AreSources, list_of}
 use Rattle.dicomdir.specs.Merges.{MakesMerge}
+use Rattle.dicomdir.specs.Prints.{PrintsIndex, PrintsMerge}
 
 -- the program takes the words
 abbrev pub IsTaken : {Z : Type 0} → List (String Z) → Type 0
@@ -54,3 +57,23 @@ pub record MakesRequested (r : Request) (choice : Choice) (withdrawn : List Text
   pub sources : List Text
   pub are : AreSources (keeps_going r) (list_of r) (words_of (read_of r)) old sources
   pub made : MakesOf r choice withdrawn sources status old new
+
+-- what a request prints of these sources, under this label and without these instances
+abbrev pub SaysOf : {W : Type 0} → WriteOf W → Request → Choice → List Text → List Text → ℕ → Option Held → W → W
+    → Type 0
+SaysOf writer (Index x) choice withdrawn sources status files old new = PrintsIndex writer (style_by x.new_set.json)
+    x.new_set.dry_run x.new_set.strict x.keep_going choice x.new_set.max_bytes sources status files old new
+SaysOf writer (Merge x) choice withdrawn sources status files old new = PrintsMerge writer (style_by x.new_set.json)
+    x.new_set.dry_run x.new_set.strict choice x.new_set.max_bytes [] sources files old new
+SaysOf writer (Withdraw x) choice withdrawn sources status files old new =
+    PrintsMerge writer (style_by x.new_set.json) x.new_set.dry_run x.new_set.strict choice x.new_set.max_bytes withdrawn
+    (string_bytes x.set ∷ []) files old new
+SaysOf writer (Check x) choice withdrawn sources status files old new = Unit {0}
+SaysOf writer (ListSet x) choice withdrawn sources status files old new = Unit {0}
+
+-- what it prints of the paths that it reads and, after them, the names of its list
+pub record SaysRequested {W : Type 0} (writer : WriteOf W) (r : Request) (choice : Choice) (withdrawn : List Text)
+    (status : ℕ) (files : Option Held) (old new : W) : Type 0 where
+  pub sources : List Text
+  pub are : AreSources (keeps_going r) (list_of r) (words_of (read_of r)) files sources
+  pub says : SaysOf writer r choice withdrawn sources status files old new

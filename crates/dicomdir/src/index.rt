@@ -1,4 +1,5 @@
-ghost use Rattle.std.specs.Prelude.{◌≡◌, ◌≤◌, ℕ, List, IfErr, IfOk, IsErr, IsOk, OnOk, false, length, true};
+ghost use Rattle.std.specs.Prelude.{◌≡◌, ◌≢◌, ◌≤◌, ◌↔◌, ℕ, List, IfErr, IfOk, IsErr, IsOk, IsTrue, OnOk};
+ghost use Rattle.std.specs.Prelude.{false, length, true};
 ghost use Rattle.dd_elem.specs.Device.{HasFailed};
 ghost use Rattle.dd_engine.specs.Indexed.{IsNamed, IsWithin};
 ghost use Rattle.dd_engine.specs.Noting.{AreBelow, IsBelow};
@@ -6,6 +7,8 @@ ghost use Rattle.dd_line.specs.Line.{words_of};
 ghost use Rattle.dd_lines.specs.Text.{TakesText};
 ghost use Rattle.dicomdir.specs.Indexes.{DoneIndexes, Indexes, IsIndexStatus, has_failed, status_past};
 ghost use Rattle.dicomdir.specs.ListedNames.{AreOfSources, HavePaths};
+ghost use Rattle.dicomdir.specs.Noted.{IsNotedIndex};
+ghost use Rattle.dicomdir.specs.Prints.{PrintsIndex};
 ghost use Rattle.dicomdir.specs.Refusal.{IsOfWork};
 ghost use Rattle.dicomdir.specs.Said.{SaysNotes};
 
@@ -48,6 +51,11 @@ pub(crate) fn run_index<F: Files + Progress + Hints, O: Write>(
         → making.entry.dry_run ≡ false
         → DoneIndexes result making.entry.names.now.choice making.entry.max_bytes names
         making.entry.folder.now (F.held files.old) (F.held files.new) }
+    ensures printed { (names : List (List ℕ))
+        → HavePaths names (words_of sources.now) making.entry.bad_names.now
+        → IfOk result (λ status. status ≢ 1 → PrintsIndex O.Write making.entry.style making.entry.dry_run
+        making.entry.strict making.entry.keep_going making.entry.names.now.choice making.entry.max_bytes names
+        status (F.held files.old) out.old out.new) }
 {
     let mut sum = Sum::new();
     let done = index_sources(making, sources, &mut sum, files, out);
@@ -74,6 +82,11 @@ fn index_sources<F: Files + Progress + Hints, O: Write>(
         → making.entry.dry_run ≡ false
         → DoneIndexes result making.entry.names.now.choice making.entry.max_bytes names
         making.entry.folder.now (F.held files.old) (F.held files.new) }
+    ensures printed { (names : List (List ℕ))
+        → HavePaths names (words_of sources.now) making.entry.bad_names.now
+        → IfOk result (λ status. status ≢ 1 → PrintsIndex O.Write making.entry.style making.entry.dry_run
+        making.entry.strict making.entry.keep_going making.entry.names.now.choice making.entry.max_bytes names
+        status (F.held files.old) out.old out.new) }
 {
     let mut counts = counts_of(making.alloc, sources.len())?;
     files.begin_step(Step::Reading, sources.len() as u64);
@@ -87,9 +100,8 @@ fn index_sources<F: Files + Progress + Hints, O: Write>(
         return Ok(1);
     }
     *sum = Sum::of(&past.noted, sources.len());
-    let NotedIndex { indexed, notes } = &past.noted;
-    let is_noted = !indexed.skipped.is_empty() || has_notes(notes);
-    refuse_noted(making.strict, is_noted)?;
+    refuse_noted(making.strict, is_noted(&past.noted))?;
+    let indexed = &past.noted.indexed;
     show_dates(making.explains_in_words(), &indexed.plan, files);
     if making.dry_run {
         let images = bytes_of(&indexed.picks, &counts);
@@ -123,6 +135,12 @@ fn has_failed(skipped: &[(usize, KeyFault)]) -> bool
     ensures { result ≡ has_failed skipped.now }
 {
     skipped.iter().any(|skip| matches!(skip.1, KeyFault::Read))
+}
+
+fn is_noted(noted: &NotedIndex) -> bool
+    ensures { IsTrue result ↔ IsNotedIndex noted.now }
+{
+    !noted.indexed.skipped.is_empty() || has_notes(&noted.notes)
 }
 
 fn tell_noted<O: Write>(

@@ -16,6 +16,8 @@ mod image_path;
 mod images;
 mod index;
 mod inspecting;
+mod laws;
+mod line_flags;
 mod line_paths;
 mod line_refusal;
 mod links;
@@ -52,5 +54,10 @@ pub use dd_filing::{Filed, FilingFault, copy_version, file_image};
 pub use dd_line::{Asked, LineFault, Verb, read_words};
 pub use dd_lines::{print_line, send_text};
 pub use dd_report::{Comparison, Finding, finding_of};
+pub use dd_slots::Lanes;
+pub use laws::{
+    a_set_merged_again_keeps_its_directory, each_kept_instance_is_visited_once,
+    same_versions_leave_one_directory,
+};
 pub use program::run;
 pub use refusal::ProgramFault;

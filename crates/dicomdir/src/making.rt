@@ -5,7 +5,9 @@ ghost use Rattle.dd_lines.specs.Text.{TakesText};
 ghost use Rattle.dicomdir.specs.Done.{counts_words, ending_text, images_text, images_words, word_of};
 ghost use Rattle.dicomdir.specs.Inspecting.{style_by};
 ghost use Rattle.dicomdir.specs.Made.{MakesFileSet, MayLink};
+ghost use Rattle.dicomdir.specs.Prints.{size_of};
 ghost use Rattle.dicomdir.specs.Refusal.{IsOfWork};
+ghost use Rattle.dicomdir.specs.declared.making.Ending.TheVariants.{Done};
 
 use crate::file_set::{FileSet, write_file_set};
 use crate::inspecting::style_for;
@@ -120,6 +122,8 @@ pub(crate) fn make_file_set<F: Files + Progress, O: Origins, W: Write>(
         (MayLink (O.gives_links set.now.origins.now) (O.stands_at set.now.origins.now))
         set.now.folder.now set.now.plan.now set.now.picks.now
         (F.held files.old) (F.held files.new) }
+    ensures printed { IfOk result (λ status. status ≡ 0 → TakesText W.Write out.old out.new
+        (ending_text style Done (length set.now.plan.now.versions) (size_of set.now.plan.now))) }
 {
     write_file_set(alloc, set, files)?;
     Ok(tell_counts(Ending::Done, set.plan, style, out))

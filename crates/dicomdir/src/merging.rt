@@ -1,14 +1,17 @@
 //! The commands `merge` and `withdraw`: make a file-set of others.
-ghost use Rattle.std.specs.Prelude.{◌≡◌, ◌↔◌, ◌<◌, ◌≤◌, ℕ, [], IfErr, IfOk, IsErr, IsOk, IsTrue};
-ghost use Rattle.std.specs.Prelude.{◌∷◌, false, length, map, string_bytes, true};
+ghost use Rattle.std.specs.Prelude.{◌≡◌, ◌↔◌, ◌<◌, ◌≤◌, ℕ, List, [], IfErr, IfOk, IsErr, IsOk, IsTrue, OnOk};
+ghost use Rattle.std.specs.Prelude.{◌∷◌, ◌++◌, false, length, map, string_bytes, true};
 ghost use Rattle.dd_elem.specs.Device.{HasFailed};
 ghost use Rattle.dd_engine.specs.Merging.{IsNamedSet};
 ghost use Rattle.dd_engine.specs.Noting.{IsBelow};
 ghost use Rattle.dd_line.specs.Line.{words_of};
+ghost use Rattle.dd_lines.specs.Text.{TakesText};
 ghost use Rattle.dicomdir.specs.Made.{IsMemberPath, MakesFileSet, MayLink};
 ghost use Rattle.dicomdir.specs.Merges.{DoneMerges};
 ghost use Rattle.dicomdir.specs.Noted.{IsNoted, NamesBelow};
+ghost use Rattle.dicomdir.specs.Prints.{PrintsMerge, last_line};
 ghost use Rattle.dicomdir.specs.Refusal.{IsOfWork, IsStrict};
+ghost use Rattle.dicomdir.specs.Said.{SaysSetNotes};
 
 use crate::dates::show_dates;
 use crate::file_set::FileSet;
@@ -42,6 +45,9 @@ pub(crate) fn run_merge<F: Files + Progress + Hints, O: Write>(
         → DoneMerges result making.entry.names.now.choice making.entry.max_bytes []
         (words_of sets.now) (making.entry.link ≡ true) making.entry.folder.now
         (F.held files.old) (F.held files.new) }
+    ensures printed { IfOk result (λ status. status ≡ 0 → PrintsMerge O.Write making.entry.style
+        making.entry.dry_run making.entry.strict making.entry.names.now.choice making.entry.max_bytes
+        [] (words_of sets.now) (F.held files.old) out.old out.new) }
 {
     let mut sum = SetSum::new();
     let done = merge_sets(making, sets, &mut sum, files, out);
@@ -66,6 +72,9 @@ fn merge_sets<F: Files + Progress + Hints, O: Write>(
         → DoneMerges result making.entry.names.now.choice making.entry.max_bytes []
         (words_of sets.now) (making.entry.link ≡ true) making.entry.folder.now
         (F.held files.old) (F.held files.new) }
+    ensures printed { IfOk result (λ status. status ≡ 0 → PrintsMerge O.Write making.entry.style
+        making.entry.dry_run making.entry.strict making.entry.names.now.choice making.entry.max_bytes
+        [] (words_of sets.now) (F.held files.old) out.old out.new) }
 {
     let directories = read_directories(making.alloc, sets, files)?;
     let slices = slices(making.alloc, &directories)?;
@@ -98,6 +107,9 @@ pub(crate) fn run_withdraw<F: Files + Progress + Hints, O: Write>(
         → DoneMerges result making.entry.names.now.choice making.entry.max_bytes
         making.entry.names.now.withdrawn.items (string_bytes set.now ∷ []) ⊥ making.entry.folder.now
         (F.held files.old) (F.held files.new) }
+    ensures printed { IfOk result (λ status. status ≡ 0 → PrintsMerge O.Write making.entry.style
+        making.entry.dry_run making.entry.strict making.entry.names.now.choice making.entry.max_bytes
+        making.entry.names.now.withdrawn.items (string_bytes set.now ∷ []) (F.held files.old) out.old out.new) }
 {
     let mut sum = SetSum::new();
     let done = withdraw_of(making, slice::from_ref(set), &mut sum, files, out);
@@ -125,6 +137,9 @@ fn withdraw_of<F: Files + Progress + Hints, O: Write>(
         → DoneMerges result making.entry.names.now.choice making.entry.max_bytes
         making.entry.names.now.withdrawn.items (words_of sets.now) ⊥ making.entry.folder.now
         (F.held files.old) (F.held files.new) }
+    ensures printed { IfOk result (λ status. status ≡ 0 → PrintsMerge O.Write making.entry.style
+        making.entry.dry_run making.entry.strict making.entry.names.now.choice making.entry.max_bytes
+        making.entry.names.now.withdrawn.items (words_of sets.now) (F.held files.old) out.old out.new) }
 {
     let directories = read_directories(making.alloc, sets, files)?;
     let slices = slices(making.alloc, &directories)?;
@@ -170,6 +185,11 @@ fn write_noted<'a, F: Files + Progress + Hints, O: Write>(
         (MayLink (sets.now.link ≡ true) (IsMemberPath (words_of sets.now.folders.now)))
         making.entry.folder.now noted.now.merged.plan noted.now.merged.picks.items
         (F.held files.old) (F.held files.new)) }
+    ensures printed { IfOk result (λ status. status ≡ 0 → (notes : List ℕ)
+        × SaysSetNotes making.entry.style (words_of sets.now.folders.now) noted.now notes
+        × (making.entry.strict ≡ true → ¬ IsNoted noted.now)
+        × TakesText O.Write out.old out.new
+        (notes ++ last_line making.entry.style making.entry.dry_run noted.now.merged.plan)) }
 {
     if tell_noted(noted, sets.folders, making.strict, making.style, out).is_err() {
         return Ok(1);
@@ -196,8 +216,7 @@ fn is_noted(noted: &NotedMerge<'_>) -> bool
 }
 
 /// Prints what is noted of these file-sets: records that are not reached, files left out, images withdrawn, UIDs in no
-/// record, and Patient IDs with more than one name. A withdrawal is to pass from site to site without a word, so it is
-/// printed only where the run is strict. It fails only where the output failed.
+/// record, and Patient IDs with more than one name. It fails only where the output failed.
 fn tell_noted<O: Write>(
     noted: &NotedMerge<'_>,
     folders: &[String],
@@ -206,6 +225,10 @@ fn tell_noted<O: Write>(
     out: &mut O,
 ) -> fmt::Result
     requires { NamesBelow (length folders.now) noted.now }
+    ensures said { (is_strict ≡ true → noted.now.sets.withdrawn.items ≡ [])
+        → OnOk result ((text : List ℕ)
+        × SaysSetNotes style (words_of folders.now) noted.now text
+        × TakesText O.Write out.old out.new text) }
     ensures worked { IsOk result → O.failures out.new ≡ O.failures out.old }
     ensures failed { IsErr result → HasFailed (O.failures out.old) (O.failures out.new) }
 {
@@ -216,9 +239,7 @@ fn tell_noted<O: Write>(
     } = noted;
     tell_unreached(&sets.unreached, folders, style, out)?;
     tell_left_out(&notes.left_out, folders, style, out)?;
-    if is_strict {
-        tell_withdrawn(&sets.withdrawn, folders, style, out)?;
-    }
+    tell_withdrawn(&sets.withdrawn, folders, is_strict, style, out)?;
     tell_unlisted(&sets.unlisted, style, out)?;
     tell_names(&notes.names, style, out)
 }

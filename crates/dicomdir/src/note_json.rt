@@ -4,7 +4,7 @@ ghost use Rattle.dd_elem.specs.Device.{HasFailed};
 ghost use Rattle.dd_json.specs.Values.{json_line, value_of};
 ghost use Rattle.dd_lines.specs.Text.{TakesText, joined};
 ghost use Rattle.dicomdir.specs.Done.{counts_json, images_json};
-ghost use Rattle.dicomdir.specs.Said.{left_out_json, names_json, skip_json};
+ghost use Rattle.dicomdir.specs.Said.{left_out_json, names_json, skip_json, unlisted_json, unreached_json};
 ghost use Rattle.serde_json.specs.Data.{Data};
 
 use crate::fault_json::FaultWords;
@@ -145,6 +145,8 @@ pub(crate) fn print_conflict<'t, O: Write>(
 
 /// Prints how many records of a file-set are not reached.
 pub(crate) fn print_unreached<O: Write>(set: &str, records: u64, out: &mut O) -> fmt::Result
+    ensures told { OnOk result (TakesText O.Write out.old out.new
+        (json_line (unreached_json set.now records))) }
     ensures worked { IsOk result → O.failures out.new ≡ O.failures out.old }
     ensures failed { IsErr result → HasFailed (O.failures out.old) (O.failures out.new) }
 {
@@ -183,6 +185,8 @@ pub(crate) fn print_withdrawn<'t, O: Write>(
 
 /// Prints that no record lists the instance.
 pub(crate) fn print_unlisted<O: Write>(uid: &str, out: &mut O) -> fmt::Result
+    ensures told { OnOk result (TakesText O.Write out.old out.new
+        (json_line (unlisted_json uid.now))) }
     ensures worked { IsOk result → O.failures out.new ≡ O.failures out.old }
     ensures failed { IsErr result → HasFailed (O.failures out.old) (O.failures out.new) }
 {

@@ -2,23 +2,25 @@
 ghost use Rattle.std.specs.Prelude.{◌≡◌, ◌≤◌, ◌<◌, ◌⊎◌, ◌↔◌, ℕ, List, [], IfErr, IfOk, length, true, false};
 ghost use Rattle.dd_line.specs.Line.{HasBadLimit, HasBadName, IsCheck, IsReading, LacksSources, OnlyReads};
 ghost use Rattle.dd_line.specs.Line.{words_of};
-ghost use Rattle.dd_line.specs.Requests.{id_of, instances_of, is_dry, is_json, keeps_going, read_of, uid_of};
-ghost use Rattle.dd_line.specs.Requests.{verb_of};
+ghost use Rattle.dd_line.specs.Requests.{id_of, instances_of, is_dry, keeps_going, read_of, uid_of, verb_of};
 ghost use Rattle.dicomdir.specs.DryRun.{HasDryRun, HasKeepGoing};
 ghost use Rattle.dicomdir.specs.EmptyPaths.{HasEmptyPath, RequestsEmptyPath};
 ghost use Rattle.dicomdir.specs.Inspecting.{ChecksSet, IsList, ListsSet, PrintsRequested, comparison_in, first_path};
-ghost use Rattle.dicomdir.specs.Inspecting.{form_in, style_by, style_in};
-ghost use Rattle.dicomdir.specs.Lines.{IndexesLine, IsIndex, IsMerge, IsWithdraw, MergesLine, WithdrawsLine};
+ghost use Rattle.dicomdir.specs.Inspecting.{form_in, style_in};
+ghost use Rattle.dicomdir.specs.Lines.{IndexSays, IndexesLine, IsIndex, IsMerge, IsWithdraw, MergeSays, MergesLine};
+ghost use Rattle.dicomdir.specs.Lines.{WithdrawSays, WithdrawsLine};
 ghost use Rattle.dicomdir.specs.ListedNames.{AreOfSources, HavePaths};
 ghost use Rattle.dicomdir.specs.Made.{IsDone};
 ghost use Rattle.dicomdir.specs.Names.{choice_by};
 ghost use Rattle.dicomdir.specs.Refusal.{IsAmong, IsBadLine, IsOfWork};
-ghost use Rattle.dicomdir.specs.Words.{IsRequestStatus, IsStatusOf, IsTaken, MakesOf, MakesRequested, line_of};
+ghost use Rattle.dicomdir.specs.Words.{IsRequestStatus, IsStatusOf, IsTaken, MakesOf, MakesRequested, SaysOf};
+ghost use Rattle.dicomdir.specs.Words.{SaysRequested, line_of};
 
 use crate::empty_paths::empty_path;
 use crate::hints::{hints_of, print_hints};
 use crate::index::run_index;
-use crate::inspecting::{check_of, listing_of, run_check, run_list, style_for};
+use crate::inspecting::{check_of, listing_of, run_check, run_list};
+use crate::line_flags::{is_quiet, is_verbose, style_of};
 use crate::line_paths::{LinePaths, list_of, paths_of};
 use crate::line_refusal::refuse_line;
 use crate::making::Making;
@@ -120,6 +122,15 @@ pub fn run<F: Files + Progress + Hints, O: Write, E: Write>(
         → ¬ HasDryRun (line_of words.items)
         → WithdrawsLine (line_of words.items) (F.held files.old) (F.held files.new) }
 
+    // Each has printed exactly its lines SKIP and NOTE on what was read, and then DONE or PLAN with the numbers of its
+    // plan.
+    ensures index_says { IsDone result → IsTaken words.items → IsIndex (line_of words.items)
+        → IndexSays O.Write (line_of words.items) result (F.held files.old) out.old out.new }
+    ensures merge_says { result ≡ 0 → IsTaken words.items → IsMerge (line_of words.items)
+        → MergeSays O.Write (line_of words.items) (F.held files.old) out.old out.new }
+    ensures withdraw_says { result ≡ 0 → IsTaken words.items → IsWithdraw (line_of words.items)
+        → WithdrawSays O.Write (line_of words.items) (F.held files.old) out.old out.new }
+
     // Where they say that, `list` has read the directory in the folder and sent its listing, and `check` has sent what
     // it found of each file, or that the directory can't be read.
     ensures lists { result ≡ 0 → IsTaken words.items → IsList (line_of words.items)
@@ -156,6 +167,9 @@ fn run_request<F: Files + Progress + Hints, O: Write, E: Write>(
     ensures made { is_dry request.now ≡ false → IsDone result
         → MakesRequested request.now (choice_by (id_of request.now) (uid_of request.now))
         (words_of (instances_of request.now)) result (F.held files.old) (F.held files.new) }
+    ensures says { IsDone result → SaysRequested O.Write request.now
+        (choice_by (id_of request.now) (uid_of request.now)) (words_of (instances_of request.now)) result
+        (F.held files.old) out.old out.new }
     ensures printed { IsDone result → PrintsRequested F.In.Read O.Write request.now
         (F.held files.old) result (F.refusals files.old) (F.refusals files.new) out.old out.new }
 {
@@ -196,6 +210,9 @@ fn run_named<F: Files + Progress + Hints, O: Write, E: Write>(
     ensures made { is_dry work.entry.request.now ≡ false → IsDone result
         → MakesRequested work.entry.request.now work.entry.names.now.choice
         work.entry.names.now.withdrawn.items result (F.held files.old) (F.held files.new) }
+    ensures says { IsDone result → SaysRequested O.Write work.entry.request.now
+        work.entry.names.now.choice work.entry.names.now.withdrawn.items result
+        (F.held files.old) out.old out.new }
     ensures printed { IsDone result → PrintsRequested F.In.Read O.Write work.entry.request.now
         (F.held files.old) result (F.refusals files.old) (F.refusals files.new) out.old out.new }
 {
@@ -229,40 +246,6 @@ fn silence_quiet<F: Files + Progress>(request: &Request, files: &mut F)
     if is_quiet(request) {
         files.silence();
     }
-}
-
-fn is_quiet(request: &Request) -> bool {
-    match request {
-        Request::Index(index) => index.new_set.quiet,
-        Request::Merge(merge) => merge.new_set.quiet,
-        Request::Withdraw(withdraw) => withdraw.new_set.quiet,
-        Request::Check(check) => check.quiet,
-        Request::List(_) => false,
-    }
-}
-
-fn is_verbose(request: &Request) -> bool {
-    match request {
-        Request::Index(index) => index.new_set.verbose,
-        Request::Merge(merge) => merge.new_set.verbose,
-        Request::Withdraw(withdraw) => withdraw.new_set.verbose,
-        Request::Check(check) => check.verbose,
-        Request::List(list) => list.verbose,
-    }
-}
-
-/// Says how the lines of the request are printed.
-fn style_of(request: &Request) -> Style
-    ensures { result ≡ style_by (is_json request.now) }
-{
-    let is_json = match request {
-        Request::Index(index) => index.new_set.json,
-        Request::Merge(merge) => merge.new_set.json,
-        Request::Withdraw(withdraw) => withdraw.new_set.json,
-        Request::Check(check) => check.json,
-        Request::List(list) => list.json,
-    };
-    style_for(is_json)
 }
 
 /// Says whether hints are shown: JSON objects have them even where no person reads the error output.
@@ -363,6 +346,13 @@ fn run_verb<F: Files + Progress + Hints, O: Write>(
         → MakesOf work.entry.request.now work.entry.names.now.choice
         work.entry.names.now.withdrawn.items names status
         (F.held files.old) (F.held files.new)) }
+
+    ensures says { (names : List (List ℕ))
+        → HavePaths names (words_of sources.now) work.entry.bad_names.now
+        → (keeps_going work.entry.request.now ≡ false → work.entry.bad_names.now ≡ [])
+        → IfOk result (λ status. IsDone status → SaysOf O.Write work.entry.request.now
+        work.entry.names.now.choice work.entry.names.now.withdrawn.items names status
+        (F.held files.old) out.old out.new) }
 
     ensures printed { IfOk result (λ status. PrintsRequested F.In.Read O.Write
         work.entry.request.now (F.held files.old) status

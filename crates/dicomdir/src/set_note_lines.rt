@@ -1,10 +1,15 @@
 //! Prints what `merge` and `withdraw` say of whole file-sets and of withdrawn instances before they make anything.
-ghost use Rattle.std.specs.Prelude.{◌≡◌, ◌↔◌, ◌<◌, All, IsErr, IsOk, IsTrue, length};
+ghost use Rattle.std.specs.Prelude.{◌≡◌, ◌↔◌, ◌<◌, ℕ, List, [], All, IsErr, IsOk, IsTrue, OnOk};
+ghost use Rattle.std.specs.Prelude.{length, true};
 ghost use Rattle.dd_elem.specs.Device.{HasFailed};
+ghost use Rattle.dd_line.specs.Line.{words_of};
+ghost use Rattle.dd_lines.specs.Text.{TakesText};
 ghost use Rattle.dicomdir.specs.Noted.{HasSetNotes};
+ghost use Rattle.dicomdir.specs.Said.{AreLines, IsUnlisted, IsUnreached, path_at, unlisted_line};
+ghost use Rattle.dicomdir.specs.Said.{unreached_line, unreached_words};
 
 use crate::note_json;
-use crate::note_lines::UidText;
+use crate::note_lines::{UidText, uid_text};
 use crate::shown_path::{ShownFile, ShownPath};
 use dd_elem::{Uid, Write};
 use dd_engine::{Pick, SetNotes, Unreached, WithdrawnImage};
@@ -21,20 +26,47 @@ pub(crate) fn tell_unreached<O: Write>(
     out: &mut O,
 ) -> fmt::Result
     requires { All (λ note. note.set < length folders.now) unreached.now }
+    ensures told { OnOk result ((text : List ℕ)
+        × AreLines (IsUnreached style (words_of folders.now)) unreached.now text
+        × TakesText O.Write out.old out.new text) }
     ensures worked { IsOk result → O.failures out.new ≡ O.failures out.old }
     ensures failed { IsErr result → HasFailed (O.failures out.old) (O.failures out.new) }
 {
     for note in unreached {
-        let set = folders[note.set].as_str();
-        match style {
-            Style::Text => print_unreached(set, note.records, out)?,
-            Style::Json => note_json::print_unreached(set, note.records, out)?,
-        }
+        tell_unreached_in(note, folders, style, out)?;
     }
     Ok(())
 }
 
+fn tell_unreached_in<O: Write>(
+    note: &Unreached,
+    folders: &[String],
+    style: Style,
+    out: &mut O,
+) -> fmt::Result
+    requires { note.now.set < length folders.now }
+    ensures told { OnOk result (TakesText O.Write out.old out.new
+        (unreached_line style (path_at (words_of folders.now) note.now.set) note.now.records)) }
+    ensures worked { IsOk result → O.failures out.new ≡ O.failures out.old }
+    ensures failed { IsErr result → HasFailed (O.failures out.old) (O.failures out.new) }
+{
+    tell_unreached_set(folders[note.set].as_str(), note.records, style, out)
+}
+
+fn tell_unreached_set<O: Write>(set: &str, records: u64, style: Style, out: &mut O) -> fmt::Result
+    ensures told { OnOk result (TakesText O.Write out.old out.new
+        (unreached_line style set.now records)) }
+    ensures worked { IsOk result → O.failures out.new ≡ O.failures out.old }
+    ensures failed { IsErr result → HasFailed (O.failures out.old) (O.failures out.new) }
+{
+    match style {
+        Style::Text => print_unreached(set, records, out),
+        Style::Json => note_json::print_unreached(set, records, out),
+    }
+}
+
 fn print_unreached<O: Write>(set: &str, records: u64, out: &mut O) -> fmt::Result
+    ensures told { OnOk result (TakesText O.Write out.old out.new (unreached_words set.now records)) }
     ensures worked { IsOk result → O.failures out.new ≡ O.failures out.old }
     ensures failed { IsErr result → HasFailed (O.failures out.old) (O.failures out.new) }
 {
@@ -46,18 +78,24 @@ fn print_unreached<O: Write>(set: &str, records: u64, out: &mut O) -> fmt::Resul
     )
 }
 
-/// Prints each image whose instance a file-set in one of these folders withdraws, and which set that is.
+/// Prints each image whose instance a file-set in one of these folders withdraws, and which set that is. A withdrawal
+/// is to pass from site to site without a word, so it prints nothing unless the run is strict.
 pub(crate) fn tell_withdrawn<O: Write>(
     withdrawn: &[WithdrawnImage<Pick<'_>>],
     folders: &[String],
+    is_strict: bool,
     style: Style,
     out: &mut O,
 ) -> fmt::Result
     requires { All (λ image. (image.file.set < length folders.now)
         × (image.by < length folders.now)) withdrawn.now }
+    ensures none { (is_strict ≡ true → withdrawn.now ≡ []) → out.new ≡ out.old }
     ensures worked { IsOk result → O.failures out.new ≡ O.failures out.old }
     ensures failed { IsErr result → HasFailed (O.failures out.old) (O.failures out.new) }
 {
+    if !is_strict {
+        return Ok(());
+    }
     for image in withdrawn {
         let file = image.file.path_among(folders);
         let by = folders[image.by].as_str();
@@ -114,17 +152,26 @@ fn print_withdrawn<O: Write>(
 
 /// Prints the UIDs of the command line that no record lists.
 pub(crate) fn tell_unlisted<O: Write>(unlisted: &[Uid], style: Style, out: &mut O) -> fmt::Result
+    ensures told { OnOk result ((text : List ℕ) × AreLines (IsUnlisted style) unlisted.now text
+        × TakesText O.Write out.old out.new text) }
     ensures worked { IsOk result → O.failures out.new ≡ O.failures out.old }
     ensures failed { IsErr result → HasFailed (O.failures out.old) (O.failures out.new) }
 {
     for instance in unlisted {
-        let uid = UidText::of(instance);
-        match style {
-            Style::Text => print_line(&["NOTE -: ", uid.as_str(), " is in no record"], out)?,
-            Style::Json => note_json::print_unlisted(uid.as_str(), out)?,
-        }
+        tell_unlisted_uid(uid_text(instance), style, out)?;
     }
     Ok(())
+}
+
+fn tell_unlisted_uid<O: Write>(uid: &str, style: Style, out: &mut O) -> fmt::Result
+    ensures told { OnOk result (TakesText O.Write out.old out.new (unlisted_line style uid.now)) }
+    ensures worked { IsOk result → O.failures out.new ≡ O.failures out.old }
+    ensures failed { IsErr result → HasFailed (O.failures out.old) (O.failures out.new) }
+{
+    match style {
+        Style::Text => print_line(&["NOTE -: ", uid, " is in no record"], out),
+        Style::Json => note_json::print_unlisted(uid, out),
+    }
 }
 
 pub(crate) fn has_set_notes(notes: &SetNotes<'_>) -> bool

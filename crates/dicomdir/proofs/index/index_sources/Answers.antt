@@ -1,7 +1,11 @@
 -- What was made is of the answer of the engine, whose sources are the files as they were.
-use Rattle.std.proofs.Common.{refl}
+use Rattle.std.proofs.Common.{refl, rules}
+use Rattle.std.specs.Prelude.{IsOk}
 use Rattle.dd_line.specs.Line.{words_of}
 use Rattle.dicomdir.proofs.PastFailures.{at_most_one, done_index, index_status}
+use Rattle.dicomdir.proofs.PrintedLines.{index_prints, unnoted}
+use Rattle.dicomdir.proofs.SaidLines.{on_ok_gives}
+use Rattle.dicomdir.specs.Noted.{IsNotedIndex}
 use Rattle.dicomdir.proofs.index.index_sources.Goals as goal
 
 pub returns-clause-made : goal.returns-clause-made
@@ -34,3 +38,32 @@ returns-then-making-clause-status g c =
     c.tell_plan_of_images-status.result
     (at_most_one c.tell_plan_of_images-status.result c.tell_plan_of_images-status.ensures.status)
     (c.in-Ok.ensures.answers c.requires.0 c.requires.1))
+
+pub returns-clause-printed : goal.returns-clause-printed
+returns-clause-printed g c = λ names have.
+    let making = c.args.making in
+    let noted = c.in-Ok.past.noted in
+    let ok : IsOk c.tell_noted.result = search rules in
+    rw (c.status_past-2.ensures, c.deref-3.ensures.value) (index_prints g.O.Write making.style making.dry_run
+    making.strict making.keep_going making.names.now.choice making.max_bytes names (words_of c.args.sources.now)
+    making.bad_names.now _ noted c.args.out.now c.tell_noted.new.out c.make_file_set.new.out _
+    c.in_ok-status.status have (rw c.begin_step.ensures.kept at c.in-Ok.ensures.answers names have)
+    (on_ok_gives c.tell_noted.result ok c.tell_noted.ensures.told)
+    (unnoted making.strict c.is_noted.result (IsNotedIndex noted) c.in_ok-refuse_noted.ensures.refuses
+    c.is_noted.ensures) (rw c.if-making.false refl)
+    c.in_ok-status.ensures.printed c.in_ok-status.ensures.status)
+
+pub returns-then-making-clause-printed : goal.returns-then-making-clause-printed
+returns-then-making-clause-printed g c = λ names have.
+    let making = c.args.making in
+    let noted = c.in-Ok.past.noted in
+    let ok : IsOk c.tell_noted.result = search rules in
+    let planned = c.tell_plan_of_images-status in
+    rw (c.status_past.ensures, c.deref-then-making-2.ensures.value) (index_prints g.O.Write making.style
+    making.dry_run making.strict making.keep_going making.names.now.choice making.max_bytes names
+    (words_of c.args.sources.now) making.bad_names.now _ noted c.args.out.now c.tell_noted.new.out
+    planned.new.out _ planned.result have (rw c.begin_step.ensures.kept at c.in-Ok.ensures.answers names have)
+    (on_ok_gives c.tell_noted.result ok c.tell_noted.ensures.told)
+    (unnoted making.strict c.is_noted.result (IsNotedIndex noted) c.in_ok-refuse_noted.ensures.refuses
+    c.is_noted.ensures) (rw c.if-making.true (c.bytes_of-images.result, refl)) planned.ensures.done
+    (at_most_one planned.result planned.ensures.status))

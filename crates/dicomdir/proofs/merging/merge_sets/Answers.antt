@@ -2,6 +2,7 @@
 use Rattle.std.proofs.Common.{◌≡◌, [], map, true}
 use Rattle.dd_line.specs.Line.{words_of}
 use Rattle.dicomdir.proofs.EngineMade.{done_merges}
+use Rattle.dicomdir.proofs.PrintedLines.{merge_prints}
 use Rattle.dicomdir.proofs.merging.merge_sets.Goals as goal
 
 pub returns-clause-made : goal.returns-clause-made
@@ -13,3 +14,12 @@ returns-clause-made g c = λ makes.
     (rw (c.of_bytes-limits.ensures, c.deref-2.ensures.value, c.in_ok-slices.ensures.bytes, c.deref.ensures.value) at
     c.in-Ok.ensures.merges)
     (rw c.in_ok-directories.ensures.kept at c.write_noted.ensures.made makes)
+
+pub returns-clause-printed : goal.returns-clause-printed
+returns-clause-printed g c =
+    let making = c.args.making in
+    merge_prints g.O.Write making.style making.dry_run making.strict making.names.now.choice making.max_bytes []
+    (words_of c.args.sets.now) (map (λ bytes. bytes.items) c.in_ok-directories.directories.items) _ c.in-Ok.noted
+    c.args.out.now c.write_noted.new.out c.write_noted.result c.in_ok-directories.ensures.read
+    (rw (c.of_bytes-limits.ensures, c.deref-2.ensures.value, c.in_ok-slices.ensures.bytes, c.deref.ensures.value) at
+    c.in-Ok.ensures.merges) c.write_noted.ensures.printed

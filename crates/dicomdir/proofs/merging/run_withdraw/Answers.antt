@@ -15,3 +15,6 @@ returns-in-Ok-clause-made g c = λ makes done.
 
 pub returns-in-Err-clause-refusal : goal.returns-in-Err-clause-refusal
 returns-in-Err-clause-refusal g c = λ paths some. of_some paths c.in-Err.refusal some c.in-Err.ensures.refusal
+
+pub returns-in-Ok-clause-printed : goal.returns-in-Ok-clause-printed
+returns-in-Ok-clause-printed g c = rw c.from_ref.ensures.value at c.in-Ok.ensures.printed

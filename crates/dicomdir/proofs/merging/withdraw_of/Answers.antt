@@ -3,6 +3,7 @@ use Rattle.std.proofs.Common.{◌∙◌, ap, length, map}
 use Rattle.dd_line.specs.Line.{words_of}
 use Rattle.dicomdir.specs.Made.{IsMemberPath}
 use Rattle.dicomdir.proofs.EngineMade.{done_merges, only_one}
+use Rattle.dicomdir.proofs.PrintedLines.{merge_prints}
 use Rattle.dicomdir.proofs.Unlinked.{unlinked_done}
 use Rattle.dicomdir.proofs.merging.withdraw_of.Goals as goal
 
@@ -19,3 +20,17 @@ returns-clause-made g c = λ makes.
     (rw (c.of_bytes-limits.ensures, c.deref-2.ensures.value, set) at c.in-Ok.ensures.merges)
     (unlinked_done c.write_noted.result (IsMemberPath (words_of c.args.sets.now)) c.args.making.folder.now _ _ _ _
     (rw c.in_ok-directories.ensures.kept at c.write_noted.ensures.made makes))
+
+pub returns-clause-printed : goal.returns-clause-printed
+returns-clause-printed g c =
+    let making = c.args.making in
+    let count = c.in_ok-slices.ensures.count ∙ ap (λ all. length all) c.deref.ensures.value
+    ∙ c.in_ok-directories.ensures.all ∙ c.requires in
+    let set = only_one c.in_ok-slices.slices.items c.index.result.now (λ slice. slice.now) count c.index.ensures
+    ∙ (rw c.deref.ensures.value at c.in_ok-slices.ensures.bytes) in
+    merge_prints g.O.Write making.style making.dry_run making.strict making.names.now.choice making.max_bytes
+    making.names.now.withdrawn.items (words_of c.args.sets.now)
+    (map (λ bytes. bytes.items) c.in_ok-directories.directories.items) _ c.in-Ok.noted c.args.out.now
+    c.write_noted.new.out c.write_noted.result c.in_ok-directories.ensures.read
+    (rw (c.of_bytes-limits.ensures, c.deref-2.ensures.value, set) at c.in-Ok.ensures.merges)
+    c.write_noted.ensures.printed

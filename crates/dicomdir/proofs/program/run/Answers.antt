@@ -6,12 +6,14 @@ use Rattle.dicomdir.specs.DryRun.{HasDryRun, HasKeepGoing}
 use Rattle.dicomdir.specs.EmptyPaths.{HasEmptyPath}
 use Rattle.dicomdir.specs.Inspecting.{ChecksSet, IsList, ListsSet, comparison_in, first_path, form_in, style_in}
 use Rattle.dicomdir.specs.Lines.{IndexesLine, IsIndex, IsMerge, IsWithdraw, MergesLine, WithdrawsLine}
+use Rattle.dicomdir.specs.Lines.{IndexSays, MergeSays, WithdrawSays}
 use Rattle.dicomdir.specs.Made.{IsDone}
 use Rattle.dicomdir.specs.Words.{IsTaken, line_of}
 use Rattle.dicomdir.proofs.DryRuns.{given_keep_going, requested_dry, requested_work}
 use Rattle.dicomdir.proofs.EmptyWords.{requested_empty}
 use Rattle.dicomdir.proofs.InspectedLines.{requested_checks, requested_lists}
 use Rattle.dicomdir.proofs.LinesMade.{given_index, given_merge, given_withdraw}
+use Rattle.dicomdir.proofs.LinesSaid.{index_says, merge_says, withdraw_says}
 use Rattle.dicomdir.proofs.LinesRefused.{taken_lacks, taken_mistake}
 use Rattle.dicomdir.proofs.program.run.Goals as goal
 
@@ -93,6 +95,30 @@ returns-in-Ok-clause-withdraws g c = λ done _ names works.
     (given_withdraw c.in-Ok.request found _ _ _ read names
     (c.run_request.ensures.made (requested_work c.in-Ok.request found read works) (inl done)))
 
+pub returns-in-Ok-clause-index_says : goal.returns-in-Ok-clause-index_says
+returns-in-Ok-clause-index_says g c = λ done _ names.
+    let names = subst (λ words. IsIndex (line_of words)) (sym c.as_slice.ensures.value) names in
+    subst (λ words. IndexSays g.O.Write (line_of words) c.run_request.result (g.F.Files.held c.args.files.now)
+    c.args.out.now c.run_request.new.out) c.as_slice.ensures.value
+    (index_says g.O.Write c.in-Ok.request (line_of c.as_slice.result.now) _ _ _ _ c.in-Ok.ensures.request names
+    (c.run_request.ensures.says done))
+
+pub returns-in-Ok-clause-merge_says : goal.returns-in-Ok-clause-merge_says
+returns-in-Ok-clause-merge_says g c = λ done _ names.
+    let names = subst (λ words. IsMerge (line_of words)) (sym c.as_slice.ensures.value) names in
+    subst (λ words. MergeSays g.O.Write (line_of words) (g.F.Files.held c.args.files.now)
+    c.args.out.now c.run_request.new.out) c.as_slice.ensures.value
+    (merge_says g.O.Write c.in-Ok.request (line_of c.as_slice.result.now) _ _ _ _ c.in-Ok.ensures.request names
+    (c.run_request.ensures.says (inl done)))
+
+pub returns-in-Ok-clause-withdraw_says : goal.returns-in-Ok-clause-withdraw_says
+returns-in-Ok-clause-withdraw_says g c = λ done _ names.
+    let names = subst (λ words. IsWithdraw (line_of words)) (sym c.as_slice.ensures.value) names in
+    subst (λ words. WithdrawSays g.O.Write (line_of words) (g.F.Files.held c.args.files.now)
+    c.args.out.now c.run_request.new.out) c.as_slice.ensures.value
+    (withdraw_says g.O.Write c.in-Ok.request (line_of c.as_slice.result.now) _ _ _ _ c.in-Ok.ensures.request names
+    (c.run_request.ensures.says (inl done)))
+
 pub returns-in-Ok-clause-lists : goal.returns-in-Ok-clause-lists
 returns-in-Ok-clause-lists g c = λ is _ lists.
     subst (λ words. ListsSet g.O.Write (style_in (line_of words)) (form_in (line_of words)) (first_path (line_of words))
@@ -169,6 +195,24 @@ returns-clause-withdraws g c = λ is taken _ _.
     let amiss = c.refuse_line.ensures.mistake (taken_mistake c.in-Err.fault _ _ (c.in-Err.ensures.passes still)) in
     absurd {A = WithdrawsLine (line_of c.args.words.items) (g.F.Files.held c.args.files.now)
     (g.F.Files.held c.args.files.now)} (omega (arith, is, amiss.0))
+
+pub returns-clause-index_says : goal.returns-clause-index_says
+returns-clause-index_says g c = λ is taken _.
+    let still = subst (λ words. IsTaken words) (sym c.as_slice.ensures.value) taken in
+    let amiss = c.refuse_line.ensures.mistake (taken_mistake c.in-Err.fault _ _ (c.in-Err.ensures.passes still)) in
+    absurd (refused_line c.refuse_line.result is amiss.0 c.refuse_line.ensures.status)
+
+pub returns-clause-merge_says : goal.returns-clause-merge_says
+returns-clause-merge_says g c = λ is taken _.
+    let still = subst (λ words. IsTaken words) (sym c.as_slice.ensures.value) taken in
+    let amiss = c.refuse_line.ensures.mistake (taken_mistake c.in-Err.fault _ _ (c.in-Err.ensures.passes still)) in
+    absurd (refused_line c.refuse_line.result (inl is) amiss.0 c.refuse_line.ensures.status)
+
+pub returns-clause-withdraw_says : goal.returns-clause-withdraw_says
+returns-clause-withdraw_says g c = λ is taken _.
+    let still = subst (λ words. IsTaken words) (sym c.as_slice.ensures.value) taken in
+    let amiss = c.refuse_line.ensures.mistake (taken_mistake c.in-Err.fault _ _ (c.in-Err.ensures.passes still)) in
+    absurd (refused_line c.refuse_line.result (inl is) amiss.0 c.refuse_line.ensures.status)
 
 pub returns-clause-lists : goal.returns-clause-lists
 returns-clause-lists g c = λ is taken _.

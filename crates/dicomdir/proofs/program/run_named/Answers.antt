@@ -17,6 +17,19 @@ returns-in-Ok-run_verb-clause-made g c = λ makes done.
           (rw c.bad_names_in.ensures found.none) makes done;
     }
 
+-- What is printed is of these, too.
+pub returns-in-Ok-run_verb-clause-says : goal.returns-in-Ok-run_verb-clause-says
+returns-in-Ok-run_verb-clause-says g c = λ done.
+    let found = rw c.silence_quiet.ensures.kept at c.in-Ok.ensures.listed in
+    record {
+      sources = found.sources;
+      are = found.are;
+      says = rw (c.all_sources.ensures.kept, c.silence_quiet.ensures.kept) at
+          c.in-Ok-run_verb.ensures.says found.sources
+          (rw (c.paths_or-sources.ensures, c.paths_of-given.ensures.sources, c.bad_names_in.ensures) found.have)
+          (rw c.bad_names_in.ensures found.none) done;
+    }
+
 pub run_verb-requires-clause-named : goal.run_verb-requires-clause-named
 run_verb-requires-clause-named g c =
     let found = c.in-Ok.ensures.listed in

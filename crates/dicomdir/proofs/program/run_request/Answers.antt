@@ -1,5 +1,5 @@
 -- Where a command runs, no path is empty.
-use Rattle.std.proofs.Common.{ℕ, arith, refl, rules, subst}
+use Rattle.std.proofs.Common.{ℕ, arith, inl, inr, refl, rules, subst}
 use Rattle.dicomdir.specs.EmptyPaths.{IsEmptyAt}
 use Rattle.dicomdir.proofs.EmptyWords.{folder_seen, none_empty}
 use Rattle.dicomdir.proofs.program.run_request.Goals as goal
@@ -9,6 +9,22 @@ returns-clause-empty g c = λ has. absurd (none_empty c.args.request.now
     (folder_seen c.args.request.now c.new_set.result c.new_set.ensures (c.in-None.ensures.folders refl))
     (subst (λ paths. (at : ℕ) → ¬ IsEmptyAt paths at) c.paths_of-paths.ensures.sources
     (c.in-None.ensures.sources refl)) has)
+
+pub returns-clause-status : goal.returns-clause-status
+returns-clause-status g c = elim c.run_named.ensures.status [
+  | inl few ↦ record {
+    most = omega (arith, few);
+    findings = λ three. absurd (omega (arith, few, three));
+    bad = λ two. absurd (omega (arith, few, two));
+    good = λ zero. c.in-Ok.ensures.good refl;
+  }
+  | inr found ↦ record {
+    most = omega (arith, found.0);
+    findings = λ three. found.1;
+    bad = λ two. absurd (omega (arith, found.0, two));
+    good = λ zero. absurd (omega (arith, found.0, zero));
+  }
+]
 
 pub returns-in-Err-clause-status : goal.returns-in-Err-clause-status
 returns-in-Err-clause-status g c = record {

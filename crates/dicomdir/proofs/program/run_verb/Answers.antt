@@ -4,6 +4,7 @@ use Rattle.dd_line.specs.Line.{words_of}
 use Rattle.dicomdir.proofs.HavingPaths.{all_named}
 use Rattle.dicomdir.specs.declared.refusal.Refusal.{Refusal}
 use Rattle.dicomdir.proofs.LinesMade.{index_done, merge_done}
+use Rattle.dicomdir.proofs.LinesSaid.{index_said, merge_said}
 use Rattle.dicomdir.proofs.program.run_verb.Goals as goal
 
 pub returns-in-Index-clause-made : goal.returns-in-Index-clause-made
@@ -24,6 +25,25 @@ returns-in-Withdraw-clause-made g c = rw c.in-Withdraw.is (λ names have none ma
     let of = c.of-making-in-Withdraw.ensures in
     merge_done {E = Refusal} c.run_withdraw.result _ _ _ _ ⊥ _ _ _ c.run_withdraw.ensures.status
     (rw (of.folder, of.names, of.limit) at c.run_withdraw.ensures.made (of.dry ∙ makes)))
+
+pub returns-in-Index-clause-says : goal.returns-in-Index-clause-says
+returns-in-Index-clause-says g c = rw c.in-Index.is (λ names have none.
+    let of = c.of-making.ensures in
+    index_said {E = Refusal} g.O.Write c.run_index.result _ _ _ _ _ _ _ _ _ _
+    (rw (of.style, of.dry, of.strict, of.names, of.limit) at c.run_index.ensures.printed names have))
+
+pub returns-in-Merge-clause-says : goal.returns-in-Merge-clause-says
+returns-in-Merge-clause-says g c = rw c.in-Merge.is (λ names have none.
+    let of = c.of-making-in-Merge.ensures in
+    let same = all_named names (words_of c.args.sources.now) (rw (none refl) at have) in
+    merge_said {E = Refusal} g.O.Write c.run_merge.result _ _ _ _ _ _ _ _ _ _ c.run_merge.ensures.status
+    (rw (same, of.style, of.dry, of.strict, of.names, of.limit) at c.run_merge.ensures.printed))
+
+pub returns-in-Withdraw-clause-says : goal.returns-in-Withdraw-clause-says
+returns-in-Withdraw-clause-says g c = rw c.in-Withdraw.is (λ names have none.
+    let of = c.of-making-in-Withdraw.ensures in
+    merge_said {E = Refusal} g.O.Write c.run_withdraw.result _ _ _ _ _ _ _ _ _ _ c.run_withdraw.ensures.status
+    (rw (of.style, of.dry, of.strict, of.names, of.limit) at c.run_withdraw.ensures.printed))
 
 pub returns-in-Check-clause-printed : goal.returns-in-Check-clause-printed
 returns-in-Check-clause-printed g c =

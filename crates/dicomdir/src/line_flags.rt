@@ -1,0 +1,42 @@
+//! The flags that every command may have.
+ghost use Rattle.std.specs.Prelude.{◌≡◌};
+ghost use Rattle.dd_line.specs.Requests.{is_json};
+ghost use Rattle.dicomdir.specs.Inspecting.{style_by};
+
+use crate::inspecting::style_for;
+use dd_json::Style;
+use dd_line::Request;
+
+pub(crate) fn is_quiet(request: &Request) -> bool {
+    match request {
+        Request::Index(index) => index.new_set.quiet,
+        Request::Merge(merge) => merge.new_set.quiet,
+        Request::Withdraw(withdraw) => withdraw.new_set.quiet,
+        Request::Check(check) => check.quiet,
+        Request::List(_) => false,
+    }
+}
+
+pub(crate) fn is_verbose(request: &Request) -> bool {
+    match request {
+        Request::Index(index) => index.new_set.verbose,
+        Request::Merge(merge) => merge.new_set.verbose,
+        Request::Withdraw(withdraw) => withdraw.new_set.verbose,
+        Request::Check(check) => check.verbose,
+        Request::List(list) => list.verbose,
+    }
+}
+
+/// Says how the lines of the request are printed.
+pub(crate) fn style_of(request: &Request) -> Style
+    ensures { result ≡ style_by (is_json request.now) }
+{
+    let is_json = match request {
+        Request::Index(index) => index.new_set.json,
+        Request::Merge(merge) => merge.new_set.json,
+        Request::Withdraw(withdraw) => withdraw.new_set.json,
+        Request::Check(check) => check.json,
+        Request::List(list) => list.json,
+    };
+    style_for(is_json)
+}
