@@ -1,14 +1,17 @@
 # Tests the prebuilt program; installs it, its scripts, their man pages and completions, the C library, the Python
 # package and the documents; and makes Debian packages of them, and a wheel.
-# PREFIX, LIBDIR, PYTHONDIR and DESTDIR may hold spaces.
+# PREFIX, LIBDIR, PYTHONDIR and DESTDIR may hold spaces. CPU is v2 or v3, and not taken from the environment.
 SHELL := /bin/sh
 PREFIX ?= /usr/local
 DESTDIR ?=
 LIBDIR ?= $(PREFIX)/lib
 PYTHONDIR ?= $(PREFIX)/lib/python3/dist-packages
+CPU := v2
 export PREFIX DESTDIR LIBDIR PYTHONDIR
 
-program := prebuilt/x86_64-linux-gnu/dicomdir
+programs.v2 := prebuilt/x86_64-linux-gnu/dicomdir
+programs.v3 := prebuilt/x86_64-linux-gnu/dicomdir-v3
+program := $(or $(programs.$(CPU)),$(error CPU is v2 or v3))
 library := prebuilt/x86_64-linux-gnu/libdicomdir.so.1
 headers := dicomdir.h dicomdir_table.h
 # They do the work of 'dicomdir index'. Each has a man page and completions by its name.
@@ -29,7 +32,8 @@ help:
 	@echo '  make check      tests it in a few seconds, without network and root'
 	@echo '  make install    copies it, its scripts, man pages, completions and documents, the C library, its headers'
 	@echo '                  and the Python package to PREFIX, /usr/local by default; where DESTDIR is given, to that'
-	@echo '                  folder in place of /. LIBDIR is PREFIX/lib, PYTHONDIR PREFIX/lib/python3/dist-packages'
+	@echo '                  folder in place of /. LIBDIR is PREFIX/lib, PYTHONDIR PREFIX/lib/python3/dist-packages.'
+	@echo '                  With CPU=v3 the program is the faster one, for processors of x86-64-v3 alone'
 	@echo '  make uninstall  removes these files again, from the same PREFIX, LIBDIR, PYTHONDIR and DESTDIR'
 	@echo '  make deb        makes Debian packages of them, in packaging/out'
 	@echo '  make wheel      makes a wheel of the Python package and the C library, in packaging/out'
@@ -53,7 +57,8 @@ install:
 	install -D -m 644 packaging/completions/_dicomdir $(share)/zsh/site-functions/_dicomdir
 	install -D -m 644 packaging/completions/dicomdir.fish $(share)/fish/vendor_completions.d/dicomdir.fish
 	install -m 644 $(scripts:%=packaging/completions/%.fish) $(share)/fish/vendor_completions.d
-	install -D -m 644 -t $(ours) README.md CHANGELOG.md $(program).made-from
+	install -D -m 644 -t $(ours) README.md CHANGELOG.md
+	install -m 644 $(program).made-from $(ours)/dicomdir.made-from
 	install -d $(ours)/docs $(ours)/docs/images
 	install -m 644 docs/*.md docs/json-schema.json $(ours)/docs
 	install -m 644 docs/images/*.svg $(ours)/docs/images
