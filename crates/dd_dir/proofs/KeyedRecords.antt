@@ -16,7 +16,7 @@ use Rattle.dd_layout.specs.Plans.{records_of, size}
 use Rattle.dd_part10.proofs.HeadLaw.{clean_uid}
 use Rattle.dd_dir.specs.Directories.{IsDirectory}
 use Rattle.dd_dir.specs.Keyed.{IsKeyed, IsKeyedBy, IsSent}
-use Rattle.dd_dir.specs.WellFormed.{IsWellFormed}
+use Rattle.dd_version.specs.WellFormed.{IsWellFormed}
 
 -- the version that was found
 pub keyed_is : (versions : List Parts) (row : PlanRecord) (found parts : Parts) → row.of < length versions

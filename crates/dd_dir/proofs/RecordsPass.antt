@@ -19,7 +19,7 @@ use Rattle.dd_encoding.specs.Elements.{Elements}
 use Rattle.dd_dir.specs.declared.own_fault.OwnFault.{OwnFault}
 use Rattle.dd_dir.specs.declared.own_fault.OwnFault.TheVariants.{NoDigest, RecordKey}
 use Rattle.dd_dir.specs.Own.{fault_at, is_bad, is_key, is_sound, key_fault, suits}
-use Rattle.dd_dir.specs.WellFormed.{IsWellFormed}
+use Rattle.dd_version.specs.WellFormed.{IsWellFormed}
 use Rattle.dd_dir.proofs.FileTexts.{text_short, text_suits}
 use Rattle.dd_dir.proofs.RecordValues.{ImageSays, PatientSays, SeriesSays, StudySays}
 

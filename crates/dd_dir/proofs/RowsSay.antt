@@ -25,7 +25,7 @@ use Rattle.dd_layout.proofs.Trees.{tree_is_tree}
 use Rattle.dd_dir.specs.Directories.{elements_by}
 use Rattle.dd_dir.specs.Keyed.{IsKeyed, IsKeyedBy, IsSent}
 use Rattle.dd_dir.specs.Visits.{node_at}
-use Rattle.dd_dir.specs.WellFormed.{IsWellFormed}
+use Rattle.dd_version.specs.WellFormed.{IsWellFormed}
 use Rattle.dd_dir.proofs.ListedAlong.{IsPassed}
 use Rattle.dd_dir.proofs.RecordValues.{ImageSays, PatientSays, SeriesSays, StudySays, image_says, patient_says}
 use Rattle.dd_dir.proofs.RecordValues.{series_says, study_says}

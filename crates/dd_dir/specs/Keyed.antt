@@ -8,7 +8,7 @@ use Rattle.dd_layout.specs.declared.record.PlanRecord.{PlanRecord}
 use Rattle.dd_layout.specs.Layouts.{IsSound}
 use Rattle.dd_layout.specs.Plans.{records_of, size}
 use Rattle.dd_dir.specs.Directories.{IsDirectory}
-use Rattle.dd_dir.specs.WellFormed.{IsWellFormed}
+use Rattle.dd_version.specs.WellFormed.{IsWellFormed}
 
 -- the version that a record is of is well formed
 abbrev pub IsKeyedBy : PlanRecord → Option Parts → Type 0

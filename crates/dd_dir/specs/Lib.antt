@@ -14,5 +14,4 @@ pub mod Pending
 pub mod Trees
 pub mod Visits
 pub mod Walks
-pub mod WellFormed
 pub mod Withdrawn

@@ -4,3 +4,4 @@ pub mod Filing
 pub mod Fitting
 pub mod Orders
 pub mod Syntaxes
+pub mod WellFormed

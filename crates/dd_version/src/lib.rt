@@ -10,6 +10,7 @@ mod keys;
 mod parts;
 mod syntaxes;
 mod version;
+mod well_formed;
 
 pub use classes::is_image_class;
 pub use filing::is_filed_as;
@@ -17,3 +18,4 @@ pub use keys::{PatientKeys, SeriesKeys, StudyKeys};
 pub use parts::Parts;
 pub use syntaxes::{EXPLICIT, IMPLICIT, TRANSFER, is_encapsulated, is_known_syntax};
 pub use version::{Misfit, Version};
+pub use well_formed::version_is_well_formed;

@@ -8,7 +8,7 @@ use Rattle.dd_set.specs.Single.{item_text}
 use Rattle.dd_encoding.specs.Spelling.{max_levels}
 use Rattle.dd_stream.proofs.Going.{first_fails, then_sends, sends_same}
 use Rattle.dd_dir.specs.Directories.{elements_for}
-use Rattle.dd_dir.specs.WellFormed.{IsWellFormed}
+use Rattle.dd_version.specs.WellFormed.{IsWellFormed}
 use Rattle.dd_dir.proofs.KeyedRecords.{keyed_is}
 use Rattle.dd_dir.proofs.RecordTexts.{elements_are, record_parts, second_fits}
 use Rattle.dd_dir.proofs.RowTexts.{text_of}
