@@ -2,6 +2,7 @@
 ghost use Rattle.std.specs.Prelude.{◌≡◌, ◌<◌, ◌↔◌, ◌++◌, ◌∷◌, [], ℕ, List, None, IfOk, IsNone, IsTrue, false};
 ghost use Rattle.std.specs.Prelude.{◌||◌, ◌+◌, Some, get_or, not, true};
 ghost use Rattle.sha2.specs.Sha256.{sha256};
+ghost use Rattle.dd_slots.specs.Slots.{lane_count};
 ghost use Rattle.dd_stream.specs.Reads.{ReadsUpTo};
 ghost use Rattle.dd_files.specs.ReadToEnd.{IsFilled};
 ghost use Rattle.dd_version.specs.Fitting.{is_empty};
@@ -116,6 +117,8 @@ pub(crate) struct Batch<'t> {
     pub(crate) next: PendingFile<'t>,
     /// How many wait.
     used: usize,
+    /// The bytes that were read into the slots since these were empty.
+    bytes: usize,
     lanes: Lanes,
     /// Whether anything was printed so far.
     pub(crate) found: bool,
@@ -138,6 +141,7 @@ impl<'t> Batch<'t> {
             seventh: PendingFile::new(alloc),
             next: PendingFile::new(alloc),
             used: 0,
+            bytes: 0,
             lanes,
             found: false,
             buffer: [0; PIECE],
@@ -150,11 +154,13 @@ impl<'t> Batch<'t> {
             (IsFilled result self.new.next.slot most_read) }
         ensures pending { KeepsPending self.old self.new }
     {
-        fill_slot(reader, &mut self.next.slot, &mut self.buffer, SOURCE_LIMIT)
+        let is_whole = fill_slot(reader, &mut self.next.slot, &mut self.buffer, SOURCE_LIMIT);
+        self.bytes = self.bytes.saturating_add(self.next.slot.len());
+        is_whole
     }
 
-    /// Adds the file in the next slot. Where as many files wait now as there are lanes, digests them and prints what is
-    /// found.
+    /// Adds the file in the next slot. Where as many files wait now as there are lanes, or their slots have no room for
+    /// another's, digests them and prints what is found.
     pub(crate) fn add<F: Files + Progress, W: Write>(
         &mut self,
         named: Named<'t>,
@@ -175,7 +181,7 @@ impl<'t> Batch<'t> {
         self.next.named = named;
         self.next.expected = expected;
         self.shift();
-        if self.used >= self.lanes.count() {
+        if self.is_full() {
             self.settle_all(files, lines)
         } else {
             Ok(())
@@ -198,6 +204,12 @@ impl<'t> Batch<'t> {
     {
         self.next.slot.clear();
         self.settle_all(files, lines)
+    }
+
+    fn is_full(&self) -> bool
+        ensures { result ≡ false → self.now.used < lane_count self.now.lanes }
+    {
+        self.used >= self.lanes.count() || self.bytes >= self.lanes.most_bytes()
     }
 
     fn shift(&mut self)
@@ -297,19 +309,24 @@ impl<'t> Batch<'t> {
         }
     }
 
-    /// Empties the slots, so that none of these bytes are digested again.
+    /// Empties the slots, so that none of these bytes are digested again. The fourth of four becomes the next again, so
+    /// that batches of four give no fifth slot memory.
     fn empty(&mut self)
         ensures used { self.new.used ≡ 0 }
         ensures found { self.new.found ≡ self.old.found }
     {
-        self.first.slot.clear();
-        self.second.slot.clear();
-        self.third.slot.clear();
-        self.fourth.slot.clear();
-        self.fifth.slot.clear();
-        self.sixth.slot.clear();
-        self.seventh.slot.clear();
-        self.next.slot.clear();
+        if self.used == 4 {
+            mem::swap(&mut self.fourth, &mut self.next);
+        }
+        self.first.slot.release(self.lanes);
+        self.second.slot.release(self.lanes);
+        self.third.slot.release(self.lanes);
+        self.fourth.slot.release(self.lanes);
+        self.fifth.slot.release(self.lanes);
+        self.sixth.slot.release(self.lanes);
+        self.seventh.slot.release(self.lanes);
+        self.next.slot.release(self.lanes);
         self.used = 0;
+        self.bytes = 0;
     }
 }

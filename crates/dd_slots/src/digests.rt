@@ -1,9 +1,12 @@
-ghost use Rattle.std.specs.Prelude.{◌≡◌, ℕ, List, IfSome};
+ghost use Rattle.std.specs.Prelude.{◌≡◌, ◌<◌, ℕ, List, IfSome};
 ghost use Rattle.sha2.specs.Sha256.{sha256};
 ghost use Rattle.dd_slots.specs.Slots.{IsSlotOf, lane_count};
 
 use crate::slot::Slot;
+use sha2::{Digest, Sha256};
 use sha256_lanes::{Digests, Four, digest4, digest8};
+
+const MEBIBYTE: usize = 1024 * 1024;
 
 /// Says how many files are digested at once: four is fastest on x86-64-v2, eight on x86-64-v3.
 #[derive(Clone, Copy, Debug, PartialEq, Eq)]
@@ -20,6 +23,24 @@ impl Lanes {
         match self {
             Lanes::Four => 4,
             Lanes::Eight => 8,
+        }
+    }
+
+    /// Says from how many bytes on slots are digested before another is filled. With it, all take at most 32 MiB.
+    pub fn most_bytes(self) -> usize
+        ensures { 0 < result }
+    {
+        match self {
+            Lanes::Four => 32 * MEBIBYTE,
+            Lanes::Eight => 23 * MEBIBYTE,
+        }
+    }
+
+    /// Gives the memory that a slot without bytes keeps at most. Of eight it is 1 MiB in all.
+    pub(crate) fn most_memory(self) -> usize {
+        match self {
+            Lanes::Four => 8 * MEBIBYTE,
+            Lanes::Eight => MEBIBYTE / 8,
         }
     }
 }
@@ -56,6 +77,7 @@ fn digest_eight(front: FourSlots<'_>, back: FourSlots<'_>) -> (Digests, Digests)
     ensures eighth { (bytes : List ℕ) → IsSlotOf back.entry.3.now bytes → result.1.3 ≡ sha256 bytes }
 {
     match (kept_by(front), kept_by(back)) {
+        (_, Some((&[], &[], &[], &[]))) => (digest_four(front), digest_four(back)),
         (Some(front), Some(back)) => digest8(front, back),
         _ => (digest_four(front), digest_four(back)),
     }
@@ -68,6 +90,10 @@ fn digest_four(slots: FourSlots<'_>) -> Digests
     ensures fourth { (bytes : List ℕ) → IsSlotOf slots.entry.3.now bytes → result.3 ≡ sha256 bytes }
 {
     match kept_by(slots) {
+        Some((&[], &[], &[], &[])) => {
+            let empty = Sha256::digest(&[]);
+            (empty, empty, empty, empty)
+        }
         Some((a, b, c, d)) => digest4(a, b, c, d),
         None => (
             slots.0.digest(),

@@ -1,7 +1,8 @@
-ghost use Rattle.std.specs.Prelude.{◌≡◌, ◌↔◌, ◌++◌, ℕ, List, [], IfSome, IsNone, IsSome, if◌then◌else◌};
+ghost use Rattle.std.specs.Prelude.{◌≡◌, ◌↔◌, ◌++◌, ℕ, List, [], IfSome, IsNone, IsSome, length, if◌then◌else◌};
 ghost use Rattle.sha2.specs.Sha256.{sha256};
 ghost use Rattle.dd_slots.specs.Slots.{IsSlotOf};
 
+use crate::digests::Lanes;
 use sha2::{Digest, Sha256};
 use std::alloc::Global;
 
@@ -32,6 +33,23 @@ impl Slot {
     {
         self.kept.clear();
         self.hasher = None;
+    }
+
+    /// Forgets the bytes, and gives back memory above 128 KiB where there are eight slots.
+    pub fn release(&mut self, lanes: Lanes)
+        ensures { IsSlotOf self.new [] }
+    {
+        self.clear();
+        if self.kept.capacity() > lanes.most_memory() {
+            self.kept.shrink_to_fit();
+        }
+    }
+
+    /// Gives the number of bytes that are in memory.
+    pub fn len(&self) -> usize
+        ensures { result ≡ length self.now.kept.items }
+    {
+        self.kept.len()
     }
 
     /// Takes the next bytes.

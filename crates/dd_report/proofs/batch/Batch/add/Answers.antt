@@ -16,11 +16,11 @@ settle_all-requires g c =
     next_settles c.args.self.now c.shift.new.self next c.requires.ready c.requires.whole c.shift.ensures.used
     c.shift.ensures.files
 
-pub returns-then-self-count-clause-ready : goal.returns-then-self-count-clause-ready
-returns-then-self-count-clause-ready g c = none_ready c.settle_all.new.self c.settle_all.ensures.used
+pub returns-then-is_full-clause-ready : goal.returns-then-is_full-clause-ready
+returns-then-is_full-clause-ready g c = none_ready c.settle_all.new.self c.settle_all.ensures.used
 
-pub returns-then-self-count-clause-added : goal.returns-then-self-count-clause-added
-returns-then-self-count-clause-added g c =
+pub returns-then-is_full-clause-added : goal.returns-then-is_full-clause-added
+returns-then-is_full-clause-added g c =
     let next : PendingFile =
     record { slot = c.args.self.now.next.slot; named = c.args.named; expected = c.args.expected } in
     adds_all c.settle_all.result (digest_line c.args.named c.args.expected (sha256 next.slot.kept.items))
@@ -29,19 +29,18 @@ returns-then-self-count-clause-added g c =
     (next_waits g.W.Write c.args.lines.now c.args.self.now c.shift.new.self next c.requires.ready c.shift.ensures.files
     c.shift.ensures.found) c.settle_all.ensures.settled
 
-pub returns-else-self-count-clause-ready : goal.returns-else-self-count-clause-ready
-returns-else-self-count-clause-ready g c =
+pub returns-else-is_full-clause-ready : goal.returns-else-is_full-clause-ready
+returns-else-is_full-clause-ready g c =
     let next : PendingFile =
     record { slot = c.args.self.now.next.slot; named = c.args.named; expected = c.args.expected } in
     let can = next_settles c.args.self.now c.shift.new.self next c.requires.ready c.requires.whole c.shift.ensures.used
     c.shift.ensures.files in
-    let count = c.count.ensures in
     let most = at_most_eight c.shift.new.self.lanes in
-    let less = c.if-self-count.false in
-    (omega (arith, count, most, less), can.1)
+    let less = c.is_full.ensures c.if-is_full.false in
+    (omega (arith, most, less), can.1)
 
-pub returns-else-self-count-clause-added : goal.returns-else-self-count-clause-added
-returns-else-self-count-clause-added g c =
+pub returns-else-is_full-clause-added : goal.returns-else-is_full-clause-added
+returns-else-is_full-clause-added g c =
     let next : PendingFile =
     record { slot = c.args.self.now.next.slot; named = c.args.named; expected = c.args.expected } in
     next_waits g.W.Write c.args.lines.now c.args.self.now c.shift.new.self next c.requires.ready c.shift.ensures.files
