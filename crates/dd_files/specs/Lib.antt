@@ -1,5 +1,6 @@
 pub mod Copying
 pub mod Files
+pub mod Keeping
 pub mod Paths
 pub mod Pieces
 pub mod Progress

@@ -1,4 +1,5 @@
-ghost use Rattle.std.specs.Prelude.{◌≡◌, ℕ, List, [], Option, None, IsSome, IfSome, IsOk, IfOk, option_map};
+ghost use Rattle.std.specs.Prelude.{◌≡◌, ◌≢◌, ℕ, List, [], Option, None, Err, IsSome, IfSome, IsSomeAnd, IsOk, IfOk};
+ghost use Rattle.std.specs.Prelude.{IsTrue, length, option_map};
 ghost use Rattle.std.specs.Io.KnownBytes.{Appends};
 ghost use Rattle.dd_files.specs.Files.{Held, IsCall, IsUnread, ended, grown, linked, started, written};
 
@@ -25,6 +26,9 @@ pub enum LinkFault {
     /// The file is not there, or it is no plain file.
     #[error("not there")]
     Absent,
+    /// The file has another number of bytes than it is to have.
+    #[error("changed")]
+    Changed,
     /// The new name is taken.
     #[error("taken")]
     Taken,
@@ -59,11 +63,20 @@ pub trait Files: Write {
         ensures opened { IfOk result (IsUnread Self.In.Read (held self.old) path.now) }
         ensures kept { held self.new ≡ held self.old };
 
+    /// Opens the file at exactly this path, in no other spelling. A symbolic link counts as not there.
+    fn exact_file(&mut self, path: &str) -> Result<Self::In, NotThere>
+        ensures call { IsCall Self.Write refusals held result self.old self.new }
+        ensures opened { IfOk result (IsUnread Self.In.Read (held self.old) path.now) }
+        ensures kept { held self.new ≡ held self.old };
+
     /// Opens a list of names, of any size. `-` may stand for the standard input.
     fn names(&mut self, path: &str) -> Result<Self::In, NotThere>
         ensures call { IsCall Self.Write refusals held result self.old self.new }
         ensures opened { IfOk result (IsUnread Self.In.Read (held self.old) path.now) }
         ensures kept { held self.new ≡ held self.old };
+
+    /// Gives the number of bytes that an open file is said to have, or 0 where nothing is said. It may be wrong.
+    fn said_size(&self, input: &Self::In) -> u64;
 
     /// Makes a folder with its parents. Succeeds where it is there already.
     fn folder(&mut self, path: &str) -> Result<(), NotDone>
@@ -76,6 +89,12 @@ pub trait Files: Write {
         ensures call { IsCall Self.Write refusals held result self.old self.new }
         ensures kept { held self.new ≡ held self.old }
         ensures bytes { Self.contents self.new ≡ Self.contents self.old };
+
+    /// Says whether nothing is at this path: no file, no folder and no symbolic link, not even one that leads nowhere.
+    /// False where the system doesn't say.
+    fn is_free(&self, path: &str) -> bool
+        ensures { IsTrue result
+            → IfSome (held self.now) (λ files. files.bytes_at path.now ≡ None) };
 
     /// Starts a new file, to which later writes go. Refused where the name is taken.
     fn create(&mut self, path: &str) -> Result<(), NotDone>
@@ -90,8 +109,24 @@ pub trait Files: Write {
     /// symbolic link there is Absent.
     fn link(&mut self, set: &str, from: &str, path: &str) -> Result<(), LinkFault>
         ensures call { IsCall Self.Write refusals held result self.old self.new }
+        ensures unchanged { result ≢ Err LinkFault.Changed }
         ensures there { IsOk result → IfSome (held self.old)
             (λ files. IsSome (files.bytes_at from.now)) }
+        ensures free { IsOk result
+            → IfSome (held self.old) (λ files. files.bytes_at path.now ≡ None) }
+        ensures linked { IsOk result → held self.new
+            ≡ option_map (linked from.now path.now) (held self.old) };
+
+    /// Gives the file at exactly the path `from` the hard link `path` as `link` does, where it has `size` bytes. Changed
+    /// where it has another number of bytes. Its bytes were stored before, so that the new name alone is to be stored.
+    fn link_stored(&mut self, from: &str, path: &str, size: u64) -> Result<(), LinkFault>
+        ensures call { IsCall Self.Write refusals held result self.old self.new }
+        ensures there { IsOk result → IfSome (held self.old)
+            (λ files. IsSome (files.bytes_at from.now)) }
+        ensures size { IsOk result → IfSome (held self.old)
+            (λ files. IfSome (files.bytes_at from.now) (λ bytes. length bytes ≡ size)) }
+        ensures changed { result ≡ Err LinkFault.Changed → IfSome (held self.old)
+            (λ files. IsSomeAnd (files.bytes_at from.now) (λ bytes. length bytes ≢ size)) }
         ensures free { IsOk result
             → IfSome (held self.old) (λ files. files.bytes_at path.now ≡ None) }
         ensures linked { IsOk result → held self.new

@@ -1,5 +1,5 @@
-ghost use Rattle.std.specs.Prelude.{◌≡◌, ◌↔◌, ◌<◌, [], Err, None, Some, IsErr, IsOk, IsSome, OnErr, OnOk};
-ghost use Rattle.std.specs.Prelude.{codes, false};
+ghost use Rattle.std.specs.Prelude.{◌≡◌, ◌≢◌, ◌↔◌, ◌<◌, [], Err, None, Some, IsErr, IsOk, IsSome, OnErr, OnOk};
+ghost use Rattle.std.specs.Prelude.{IfSome, IsSomeAnd, IsTrue, codes, false, length};
 ghost use Rattle.dd_elem.specs.Device.{HasWorked, counted, last_count};
 ghost use Rattle.dd_mem_files.specs.MemFiles.{LinksFile, MayCall, OpensOrRefuses, SetsFile, bytes_at, called, refused};
 ghost use Rattle.dd_mem_files.specs.MemFiles.{told_of};
@@ -39,11 +39,30 @@ impl Files for MemFiles {
         self.open_or_refuse(path)
     }
 
+    /// Opens the file at the path like `member`.
+    fn exact_file(&mut self, path: &str) -> Result<MemReader, NotThere>
+        ensures { OpensOrRefuses self.old self.new path.now result }
+    {
+        self.open_or_refuse(path)
+    }
+
     /// Opens the file at the path like `member`, also at the path `-`.
     fn names(&mut self, path: &str) -> Result<MemReader, NotThere>
         ensures { OpensOrRefuses self.old self.new path.now result }
     {
         self.open_or_refuse(path)
+    }
+
+    /// Says nothing.
+    fn said_size(&self, _input: &MemReader) -> u64 {
+        0
+    }
+
+    /// Says whether no file is at the path, nor below it as a folder.
+    fn is_free(&self, path: &str) -> bool
+        ensures { IsTrue result → bytes_at self.now.files path.now ≡ None }
+    {
+        self.bytes(path).is_none() && !self.has_below(path)
     }
 
     /// Succeeds where the call may be done, since every folder is there.
@@ -100,6 +119,7 @@ impl Files for MemFiles {
         ensures refused { IsErr result → self.new.refusals ≡ counted self.old.refusals }
         ensures may { IsOk result → self.old.planned.no_links ≡ false }
         ensures ok { OnOk result (LinksFile self.old.files self.new.files from.now path.now) }
+        ensures unchanged { result ≢ Err LinkFault.Changed }
         ensures taken { result ≡ Err LinkFault.Taken → IsSome (bytes_at self.old.files path.now) }
         ensures err { OnErr result (self.new
             ≡ record self.old { refusals = counted self.old.refusals }) }
@@ -114,6 +134,29 @@ impl Files for MemFiles {
             self.refuse();
         }
         answer
+    }
+
+    /// Does what `link` does where the file at `from` has `size` bytes. Changed where it has another number of bytes,
+    /// unless the refusals are at their last value.
+    fn link_stored(&mut self, from: &str, path: &str, size: u64) -> Result<(), LinkFault>
+        ensures worked { IsOk result → HasWorked self.old.refusals self.new.refusals }
+        ensures refused { IsErr result → self.new.refusals ≡ counted self.old.refusals }
+        ensures may { IsOk result → self.old.planned.no_links ≡ false }
+        ensures ok { OnOk result (LinksFile self.old.files self.new.files from.now path.now) }
+        ensures size { OnOk result
+            (IfSome (bytes_at self.old.files from.now) (λ bytes. length bytes ≡ size)) }
+        ensures changed { result ≡ Err LinkFault.Changed ↔ (self.old.refusals < last_count)
+            × IsSomeAnd (bytes_at self.old.files from.now) (λ bytes. length bytes ≢ size) }
+        ensures taken { result ≡ Err LinkFault.Taken → IsSome (bytes_at self.old.files path.now) }
+        ensures err { OnErr result (self.new
+            ≡ record self.old { refusals = counted self.old.refusals }) }
+        ensures same { OnOk result (self.new ≡ record self.old { files = self.new.files }) }
+    {
+        if self.refusals < u64::MAX && self.has_other_size(from, size) {
+            self.refuse();
+            return Err(LinkFault::Changed);
+        }
+        self.link("", from, path)
     }
 
     /// Ends the file that is being written. Writes then fail until the next file is started.

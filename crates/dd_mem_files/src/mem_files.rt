@@ -1,6 +1,6 @@
 //! Files in memory.
-ghost use Rattle.std.specs.Prelude.{◌≡◌, IsSome, is_ok, IfSome, ◌↔◌, [], None, Some, IsOk, false};
-ghost use Rattle.std.specs.Prelude.{Err, IsTrue, OnOk, OnErr, option_map, option_copied, string_bytes, true};
+ghost use Rattle.std.specs.Prelude.{◌≡◌, ◌≢◌, IsSome, IsSomeAnd, is_ok, IfSome, ◌↔◌, [], None, Some, IsOk, false};
+ghost use Rattle.std.specs.Prelude.{length, Err, IsTrue, OnOk, OnErr, option_map, option_copied, string_bytes, true};
 ghost use Rattle.std.specs.Io.{WritesAtMost};
 ghost use Rattle.std.specs.Io.KnownBytes.{WriteAppends};
 ghost use Rattle.dd_elem.specs.Counts.{counts_after};
@@ -244,6 +244,7 @@ impl MemFiles {
     pub(crate) fn copy_to(&mut self, from: &str, path: &str) -> Result<(), LinkFault>
         ensures ok { OnOk result (LinksFile self.old.files self.new.files from.now path.now) }
         ensures may { IsOk result → self.old.planned.no_links ≡ false }
+        ensures unchanged { result ≢ Err LinkFault.Changed }
         ensures taken { result ≡ Err LinkFault.Taken → IsSome (bytes_at self.old.files path.now) }
         ensures err { OnErr result (self.new ≡ self.old) }
         ensures same { self.new ≡ record self.old { files = self.new.files } }
@@ -261,6 +262,29 @@ impl MemFiles {
             Ok(()) => Ok(()),
             Err(_) => Err(LinkFault::Refused),
         }
+    }
+
+    /// Says whether a file is at the path that has another number of bytes.
+    pub(crate) fn has_other_size(&self, path: &str, size: u64) -> bool
+        ensures { IsTrue result ↔ IsSomeAnd (bytes_at self.now.files path.now)
+            (λ bytes. length bytes ≢ size) }
+    {
+        match self.bytes(path) {
+            Some(bytes) => bytes.len() as u64 != size,
+            None => false,
+        }
+    }
+
+    /// Says whether a file is below this path as a folder.
+    pub(crate) fn has_below(&self, folder: &str) -> bool {
+        for (path, _) in self.files.iter() {
+            if let Some(rest) = path.strip_prefix(folder)
+                && rest.starts_with('/')
+            {
+                return true;
+            }
+        }
+        false
     }
 
     pub(crate) fn count_call(&mut self) -> bool

@@ -1,7 +1,7 @@
 //! Implements the traits of dd_files.
 ghost use Rattle.std.specs.Prelude.{ℕ, None, refl};
 
-use crate::again::{Links, is_folder};
+use crate::again::{Links, is_folder, look};
 use crate::counted::{Counted, write_again};
 use crate::host_files::HostFiles;
 use crate::noted::Noted;
@@ -11,7 +11,7 @@ use dd_elem::Write;
 use dd_files::{Cause, Files, Hints, LinkFault, NotDone, NotThere, Progress, Step};
 use dd_slots::Lanes;
 use std::fmt::InlineText;
-use std::io;
+use std::io::{self, ErrorKind};
 
 /// Limits the bytes of a line that is shown.
 const LINE: usize = 256;
@@ -61,6 +61,17 @@ impl<'a, R: System> Files for HostFiles<'a, R> {
         Err(NotThere)
     }
 
+    fn exact_file(&mut self, path: &str) -> Result<Self::In, NotThere> {
+        let last = self.last;
+        if self.refusals < u64::MAX {
+            if let Ok(input) = last.note(self.open_exact(path)) {
+                return Ok(Counted::new(Noted::new(input, last)));
+            }
+        }
+        self.refusals = self.refusals.saturating_add(1);
+        Err(NotThere)
+    }
+
     fn names(&mut self, path: &str) -> Result<Self::In, NotThere> {
         let last = self.last;
         if self.refusals < u64::MAX {
@@ -70,6 +81,10 @@ impl<'a, R: System> Files for HostFiles<'a, R> {
         }
         self.refusals = self.refusals.saturating_add(1);
         Err(NotThere)
+    }
+
+    fn said_size(&self, input: &Self::In) -> u64 {
+        input.device.device().said_size()
     }
 
     fn folder(&mut self, path: &str) -> Result<(), NotDone> {
@@ -84,6 +99,13 @@ impl<'a, R: System> Files for HostFiles<'a, R> {
         self.answer(is_done)
     }
 
+    fn is_free(&self, path: &str) -> bool {
+        match self.last.note(look(self.rt, path, Links::Kept)) {
+            Ok(_) => false,
+            Err(error) => error.kind() == ErrorKind::NotFound,
+        }
+    }
+
     fn create(&mut self, path: &str) -> Result<(), NotDone> {
         let last = self.last;
         if self.refusals < u64::MAX && last.note(self.start(path)).is_ok() {
@@ -96,6 +118,18 @@ impl<'a, R: System> Files for HostFiles<'a, R> {
         let mut fault = LinkFault::Absent;
         if self.refusals < u64::MAX {
             match self.add_link(set, from, path) {
+                Ok(()) => return Ok(()),
+                Err(found) => fault = found,
+            }
+        }
+        self.refusals = self.refusals.saturating_add(1);
+        Err(fault)
+    }
+
+    fn link_stored(&mut self, from: &str, path: &str, size: u64) -> Result<(), LinkFault> {
+        let mut fault = LinkFault::Absent;
+        if self.refusals < u64::MAX {
+            match self.add_stored_link(from, path, size) {
                 Ok(()) => return Ok(()),
                 Err(found) => fault = found,
             }

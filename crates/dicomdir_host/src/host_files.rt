@@ -8,7 +8,7 @@ use crate::again::{Links, is_folder, look, make_folder};
 use crate::counted::Counted;
 use crate::last_refusal::LastRefusal;
 use crate::members::Members;
-use crate::opening::{Input, open_any, open_seen};
+use crate::opening::{Input, look_exact, open_any, open_seen};
 use crate::output::{self, Output};
 use crate::path_folder::{before_slash, folder_of};
 use crate::progress_line::ProgressLine;
@@ -42,7 +42,8 @@ const NO_MORE: [i32; 2] = [24, 23];
 /// followed below the folder of a file-set, nor below the folder that is written to.
 ///
 /// Only a plain file of a file-set gets a hard link. Where the new name turns out to be another file, the call is
-/// refused as for an absent file, and the name stays. Else it counts as a file that has ended.
+/// refused as for an absent file, and the name stays. Else it counts as a file that has ended. Where the file was
+/// stored before, its new name alone waits.
 ///
 /// A list of names may be a pipe or a device, too, and `-` is the standard input. A call that opens or reads it may
 /// wait.
@@ -186,6 +187,18 @@ impl<'a, R: System> HostFiles<'a, R> {
         let answer = open_seen(self.rt, self.members.place(), &seen);
         if self.makes_room(&answer) {
             return open_seen(self.rt, self.members.place(), &seen);
+        }
+        answer
+    }
+
+    pub(crate) fn open_exact(&mut self, path: &str) -> io::Result<Input<R::File, R::Stdin>>
+        ensures same { self.new
+            ≡ record self.old { unstored = self.new.unstored; progress = self.new.progress } }
+    {
+        let seen = look_exact(self.rt, path)?;
+        let answer = open_seen(self.rt, path, &seen);
+        if self.makes_room(&answer) {
+            return open_seen(self.rt, path, &seen);
         }
         answer
     }

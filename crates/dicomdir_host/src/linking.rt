@@ -1,10 +1,10 @@
-ghost use Rattle.std.specs.Prelude.{◌≡◌, ◌⊎◌, ◌++◌, ◌∷◌, [], map, string_bytes};
-ghost use Rattle.std.specs.Prelude.{IfOk, IsOk, IsSome};
+ghost use Rattle.std.specs.Prelude.{◌≡◌, ◌≢◌, ◌⊎◌, ◌++◌, ◌∷◌, [], map, string_bytes};
+ghost use Rattle.std.specs.Prelude.{Err, IfOk, IsOk, IsSome};
 ghost use Rattle.std.specs.Fs.{IsFile, file_type};
 ghost use Rattle.dicomdir_host.specs.Folders.{IsFolderOf};
 ghost use Rattle.dicomdir_host.specs.Storing.{Names, Waits};
 
-use crate::again::link_file;
+use crate::again::{Links, link_file, look};
 use crate::host_files::HostFiles;
 use crate::opening::{open_same, require_same};
 use crate::path_folder::folder_of;
@@ -26,6 +26,16 @@ impl<'a, R: System> HostFiles<'a, R> {
         Ok(seen)
     }
 
+    fn plain_file(&self, path: &str) -> io::Result<Metadata>
+        ensures { IfOk result (λ seen. IsFile (file_type seen)) }
+    {
+        let seen = look(self.rt, path, Links::Kept)?;
+        if !seen.is_file() {
+            return Err(io::Error::other("no plain file"));
+        }
+        Ok(seen)
+    }
+
     fn room_for(&mut self, path: &str) -> Result<(String, String), AllocError>
         ensures folder { IfOk result (λ both. IsFolderOf path.now (string_bytes both.0)) }
         ensures path { IfOk result (λ both. string_bytes both.1 ≡ path.now) }
@@ -37,6 +47,17 @@ impl<'a, R: System> HostFiles<'a, R> {
         let folder = self.unstored.room(folder_of(path))?;
         let name = String::from_str(self.alloc, path)?;
         Ok((folder, name))
+    }
+
+    // Gives the file at `from` a hard link.
+    fn make_link(&self, from: &str, path: &str) -> Result<(), LinkFault>
+        ensures unchanged { result ≢ Err LinkFault.Changed }
+    {
+        match self.last.note(link_file(self.rt, from, path)) {
+            Ok(()) => Ok(()),
+            Err(error) if error.kind() == ErrorKind::AlreadyExists => Err(LinkFault::Taken),
+            Err(_) => Err(LinkFault::Refused),
+        }
     }
 
     // Opens the new name. Refused where it is another file than was seen, or a symbolic link.
@@ -81,6 +102,7 @@ impl<'a, R: System> HostFiles<'a, R> {
     /// file, or the new name can't be opened as that file. Taken where something is at the path, and Refused where
     /// memory or the name is refused.
     pub(crate) fn add_link(&mut self, set: &str, from: &str, path: &str) -> Result<(), LinkFault>
+        ensures unchanged { result ≢ Err LinkFault.Changed }
         ensures named { IsOk result
             → Names path.now self.old.unstored.folders.items self.new.unstored.folders.items }
         ensures waits { IsOk result → Waits path.now
@@ -101,12 +123,51 @@ impl<'a, R: System> HostFiles<'a, R> {
         let Ok((folder, name)) = self.room_for(path) else {
             return Err(LinkFault::Refused);
         };
-        match last.note(link_file(self.rt, self.members.place(), path)) {
-            Ok(()) => {}
-            Err(error) if error.kind() == ErrorKind::AlreadyExists => return Err(LinkFault::Taken),
-            Err(_) => return Err(LinkFault::Refused),
-        }
+        self.make_link(self.members.place(), path)?;
         match last.note(self.keep_linked(folder, name, &seen)) {
+            Ok(()) => Ok(()),
+            Err(_) => Err(LinkFault::Absent),
+        }
+    }
+
+    // Adds the new name to what is to be stored. Refused where it is another file than was seen, or a symbolic link.
+    fn keep_name(&mut self, folder: String, path: &str, seen: &Metadata) -> io::Result<()>
+        ensures named { IsOk result
+            → self.new.unstored.folders.items ≡ self.old.unstored.folders.items ++ folder ∷ [] }
+        ensures files { self.new.unstored.files ≡ self.old.unstored.files }
+        ensures lost { self.new.unstored.lost ≡ self.old.unstored.lost }
+        ensures same { self.new ≡ record self.old { unstored = self.new.unstored } }
+    {
+        self.unstored.name(folder)?;
+        require_same(self.rt, path, seen)
+    }
+
+    /// Gives the plain file at exactly the path `from` a hard link, of which the name alone is to be stored. Changed
+    /// where that file has not `size` bytes. Absent, Taken and Refused come as from `add_link`, but no file is opened.
+    pub(crate) fn add_stored_link(
+        &mut self,
+        from: &str,
+        path: &str,
+        size: u64,
+    ) -> Result<(), LinkFault>
+        ensures named { IsOk result
+            → Names path.now self.old.unstored.folders.items self.new.unstored.folders.items }
+        ensures files { self.new.unstored.files.items ≡ self.old.unstored.files.items }
+        ensures lost { self.new.unstored.lost ≡ self.old.unstored.lost }
+        ensures same { self.new ≡ record self.old { unstored = self.new.unstored } }
+    {
+        let last = self.last;
+        let Ok(seen) = last.note(self.plain_file(from)) else {
+            return Err(LinkFault::Absent);
+        };
+        if seen.len() != size {
+            return Err(LinkFault::Changed);
+        }
+        let Ok(folder) = self.unstored.room(folder_of(path)) else {
+            return Err(LinkFault::Refused);
+        };
+        self.make_link(from, path)?;
+        match last.note(self.keep_name(folder, path, &seen)) {
             Ok(()) => Ok(()),
             Err(_) => Err(LinkFault::Absent),
         }

@@ -12,6 +12,10 @@ impl<'a, T: Drop> Noted<'a, T> {
     pub(crate) fn new(device: T, last: &'a LastRefusal) -> Self {
         Noted { device, last }
     }
+
+    pub(crate) fn device(&self) -> &T {
+        &self.device
+    }
 }
 
 impl<T: Read + Drop> Read for Noted<'_, T> {

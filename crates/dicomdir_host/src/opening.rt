@@ -3,16 +3,26 @@ ghost use Rattle.std.specs.Io.{ReadsAtMost};
 use crate::again::{Links, look, look_at_open};
 use crate::system::System;
 use std::fs::{self, File, Metadata};
-use std::io::{self, Read};
+use std::io::{self, ErrorKind, Read};
 use std::os::unix::fs::MetadataExt;
 
 #[derive(Drop)]
 pub enum Input<F: Read + Drop, S: Read + Drop> {
     /// A plain file whose size is said to be 0.
     Empty,
-    /// A plain file, or a folder, whose reads are refused.
-    File(F),
+    /// A plain file, or a folder, whose reads are refused. With it the size that it was said to have when it was opened,
+    /// or 0.
+    File(F, u64),
     Standard(S),
+}
+
+impl<F: Read + Drop, S: Read + Drop> Input<F, S> {
+    pub(crate) fn said_size(&self) -> u64 {
+        match self {
+            Input::File(_, size) => *size,
+            Input::Empty | Input::Standard(_) => 0,
+        }
+    }
 }
 
 impl<F: Read + Drop, S: Read + Drop> Read for Input<F, S> {
@@ -21,10 +31,19 @@ impl<F: Read + Drop, S: Read + Drop> Read for Input<F, S> {
     {
         match self {
             Input::Empty => Ok(0),
-            Input::File(file) => file.read(buf),
+            Input::File(file, _) => file.read(buf),
             Input::Standard(input) => input.read(buf),
         }
     }
+}
+
+/// Looks at what is at this path. A symbolic link counts as not there.
+pub(crate) fn look_exact<R: fs::Files>(rt: &R, path: &str) -> io::Result<Metadata> {
+    let seen = look(rt, path, Links::Kept)?;
+    if seen.is_symlink() {
+        return Err(io::Error::from(ErrorKind::NotFound));
+    }
+    Ok(seen)
 }
 
 /// Opens the file or folder that was seen. Refused where anything else was seen, since to open it could wait, and where
@@ -44,7 +63,7 @@ pub(crate) fn open_seen<R: System>(
     if opened.is_file() && opened.len() == 0 {
         return Ok(Input::Empty);
     }
-    Ok(Input::File(file))
+    Ok(Input::File(file, opened.len()))
 }
 
 /// Refused where what was opened is not what was seen.
@@ -72,7 +91,7 @@ pub(crate) fn require_same<R: fs::Files>(rt: &R, path: &str, seen: &Metadata) ->
 
 /// Opens a pipe or a device, too. It may wait.
 pub(crate) fn open_any<R: System>(rt: &R, path: &str) -> io::Result<Input<R::File, R::Stdin>> {
-    Ok(Input::File(File::open(rt, path)?))
+    Ok(Input::File(File::open(rt, path)?, 0))
 }
 
 /// Compares the kind, the device and the inode.

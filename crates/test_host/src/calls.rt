@@ -150,6 +150,7 @@ fn read(
             let (set, path) = named(what);
             files.member(set, path)
         }
+        "exact" => files.exact_file(what),
         "names" => files.names(what),
         _ => files.source(what),
     };
@@ -162,16 +163,38 @@ fn read(
     }
 }
 
-// Makes a hard link to a file of a file-set, and gives the outcome.
-fn second(files: &mut HostFiles<'_, DiscFiles<'_>>, what: &str) -> &'static str {
+// Splits `set: from at path`.
+fn link_of(what: &str) -> (&str, &str, &str) {
     let (set, paths) = named(what);
     let (from, path) = paths.split_once(" at ").unwrap_or((paths, ""));
-    match files.link(set, from, path) {
+    (set, from, path)
+}
+
+fn outcome_of(linked: Result<(), LinkFault>) -> &'static str {
+    match linked {
         Ok(()) => "+",
         Err(LinkFault::Absent) => "-absent",
+        Err(LinkFault::Changed) => "-changed",
         Err(LinkFault::Taken) => "-taken",
         Err(LinkFault::Refused) => "-refused",
     }
+}
+
+// Makes a hard link to a file of a file-set, and gives the outcome.
+fn second(files: &mut HostFiles<'_, DiscFiles<'_>>, what: &str) -> &'static str {
+    let (set, from, path) = link_of(what);
+    outcome_of(files.link(set, from, path))
+}
+
+// The same, of a file that was stored. What is before the first `: ` says how many bytes it has.
+fn stored(files: &mut HostFiles<'_, DiscFiles<'_>>, what: &str) -> Result<&'static str, Fail> {
+    let (size, paths) = named(what);
+    let (from, path) = paths.split_once(" at ").unwrap_or((paths, ""));
+    Ok(outcome_of(files.link_stored(from, path, size.parse()?)))
+}
+
+fn yes_or_no(is_so: bool) -> &'static str {
+    if is_so { "yes" } else { "no" }
 }
 
 // Makes a call about progress, if it is one.
@@ -204,10 +227,12 @@ fn tell(
 ) -> Result<(), Fail> {
     let (verb, what) = call.split_once(' ').unwrap_or((call, ""));
     match verb {
-        "read" | "find" | "names" => return read(alloc, files, verb, what, said),
+        "read" | "find" | "exact" | "names" => return read(alloc, files, verb, what, said),
         "unstored" => return Ok(said.push_str(files.unstored())?),
         "second" => return Ok(said.push_str(second(files, what))?),
-        "is" => return Ok(said.push_str(if files.is_folder(what) { "yes" } else { "no" })?),
+        "stored" => return Ok(said.push_str(stored(files, what)?)?),
+        "free" => return Ok(said.push_str(yes_or_no(files.is_free(what)))?),
+        "is" => return Ok(said.push_str(yes_or_no(files.is_folder(what)))?),
         "cause" => return Ok(said.push_str(files.cause().as_str())?),
         _ => {}
     }

@@ -77,6 +77,13 @@ dir o, file d/A, second d: d/A at o/A, second d: d/A at o/B, batch, create o/DIC
 file d/A, second d: d/A at DICOMDIR, store > . + + > link DICOMDIR, store DICOMDIR, store .
 file d/A, fail open, second d: d/A at a, create b, finish, batch, store > . . -absent + + + + > \
 link a, make b, store b, store .
+dir o, file d/A, stored 3: d/A at o/A, store > . . + + > link o/A, store o
+dir o, file d/A, stored 3: d/A at o/A, stored 3: d/A at o/B, batch, create o/DICOMDIR, finish, store > \
+. . + + + + + + > link o/A, link o/B, store o, make o/DICOMDIR, store o/DICOMDIR, store o
+dir o, file d/A, file d/B, stored 3: d/A at o/A, second d: d/B at o/B, store > . . . + + + > \
+link o/A, link o/B, store o/B, store o
+dir o, file d/A, stored 2: d/A at o/A, folder f, store > . . -changed + + > folder f, store .
+dir o, file d/A, fail store, stored 3: d/A at o/A, store, unstored > . . . + - o > link o/A
 folder d, folder d, folder e, folder d, folder d > + + + + + > folder d, folder e, folder d
 folder d/e, folder d/f, store > + + + > folder d, folder d/e, folder d, folder d/f, store ., store d
 fail folder, folder d, folder d, folder d > . - + + > folder d
