@@ -1,0 +1,9 @@
+pub mod Back
+pub mod CellTexts
+pub mod ItemTexts
+pub mod ReadItems
+pub mod ReadStage
+pub mod Said
+pub mod SameElements
+pub mod Sound
+pub mod Valid

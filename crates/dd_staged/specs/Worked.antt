@@ -1,0 +1,98 @@
+-- Worked examples: a file of three bytes, which is no DICOM file, and a file with a version.
+use Rattle.std.specs.Prelude.{ℕ, List, [], ◌∷◌, ◌++◌, Ok, Err, codes}
+use Rattle.dd_version.specs.declared.parts.Parts.{Parts}
+use Rattle.dd_part10.specs.declared.fault.FileFault.TheVariants.{NotPart10}
+use Rattle.dd_keys.specs.declared.fault.KeyFault.TheVariants.{File}
+use Rattle.dd_staged.specs.Sources.{Source}
+
+abbrev pub one_source : List Source
+one_source = record { name = codes "a.dcm"; size = 3; found = Err (File NotPart10) } ∷ []
+
+-- the creator, the number of items, which is 1, and the header of their sequence
+abbrev pub opening_bytes : List ℕ
+opening_bytes =
+    0x09 ∷ 0x00 ∷ 0x10 ∷ 0x00 ∷ codes "LO" ++ 0x0c ∷ 0x00 ∷ codes "DD FILESET 1"
+    ++ 0x09 ∷ 0x00 ∷ 0x03 ∷ 0x10 ∷ codes "UL" ++ 0x04 ∷ 0x00 ∷ 0x01 ∷ 0x00 ∷ 0x00 ∷ 0x00
+    ∷ 0x09 ∷ 0x00 ∷ 0x04 ∷ 0x10 ∷ codes "SQ" ++ 0x00 ∷ 0x00 ∷ 0xff ∷ 0xff ∷ 0xff ∷ 0xff ∷ []
+
+-- the header of the item, and in it the creator, the name, the length of the copy, the numbers 31 and 21, no tag and no
+-- UID
+abbrev pub item_bytes : List ℕ
+item_bytes =
+    0xfe ∷ 0xff ∷ 0x00 ∷ 0xe0 ∷ 0x5e ∷ 0x00 ∷ 0x00 ∷ 0x00
+    ∷ 0x09 ∷ 0x00 ∷ 0x10 ∷ 0x00 ∷ codes "LO" ++ 0x0c ∷ 0x00 ∷ codes "DD FILESET 1"
+    ++ 0x09 ∷ 0x00 ∷ 0x05 ∷ 0x10 ∷ codes "OB" ++ 0x00 ∷ 0x00 ∷ 0x06 ∷ 0x00 ∷ 0x00 ∷ 0x00 ∷ codes "a.dcm" ++ 0x01
+    ∷ 0x09 ∷ 0x00 ∷ 0x06 ∷ 0x10 ∷ codes "UV" ++ 0x00 ∷ 0x00 ∷ 0x08 ∷ 0x00 ∷ 0x00 ∷ 0x00
+    ∷ 0x03 ∷ 0x00 ∷ 0x00 ∷ 0x00 ∷ 0x00 ∷ 0x00 ∷ 0x00 ∷ 0x00
+    ∷ 0x09 ∷ 0x00 ∷ 0x08 ∷ 0x10 ∷ codes "OB" ++ 0x00 ∷ 0x00 ∷ 0x04 ∷ 0x00 ∷ 0x00 ∷ 0x00 ∷ 31 ∷ 21 ∷ 0 ∷ 0
+    ∷ 0x09 ∷ 0x00 ∷ 0x09 ∷ 0x10 ∷ codes "AT" ++ 0x04 ∷ 0x00 ∷ 0x00 ∷ 0x00 ∷ 0x00 ∷ 0x00
+    ∷ 0x09 ∷ 0x00 ∷ 0x0a ∷ 0x10 ∷ codes "UI" ++ 0x00 ∷ 0x00 ∷ []
+
+-- the mark at the end of the sequence
+abbrev pub end_bytes : List ℕ
+end_bytes = 0xfe ∷ 0xff ∷ 0xdd ∷ 0xe0 ∷ 0x00 ∷ 0x00 ∷ 0x00 ∷ 0x00 ∷ []
+
+-- ---- a file with a version, whose copy has 1234 bytes
+
+-- the patient's character set, the accession number and the description of the study are empty
+abbrev pub slice_parts : Parts
+slice_parts = record {
+  digest = codes "abcdefghijklmnopqrstuvwxyz012345";
+  patient = record { id = codes "P-1"; name = codes "Roe^Jane"; charset = [] };
+  study = record {
+    uid = codes "1.2.3";
+    date = codes "20260102";
+    time = codes "1015";
+    accession = [];
+    description = [];
+    id = codes "S1";
+    charset = codes "ISO_IR 100";
+  };
+  series = record { uid = codes "1.2.4"; modality = codes "CT"; number = codes "2" };
+  number = codes "7";
+  class = codes "1.2.840.10008.5.1.4.1.1.2";
+  transfer = codes "1.2.840.10008.1.2.1";
+  instance = codes "1.2.5";
+}
+
+abbrev pub one_slice : List Source
+one_slice = record { name = codes "slice7"; size = 1234; found = Ok slice_parts } ∷ []
+
+-- the header of the item; in groups 0004 and 0008 the class, the instance, the transfer syntax, the character set, the
+-- date, the time, the accession number, the modality and the description
+abbrev pub slice_front : List ℕ
+slice_front =
+    0xfe ∷ 0xff ∷ 0x00 ∷ 0xe0 ∷ 0x5a ∷ 0x01 ∷ 0x00 ∷ 0x00
+    ∷ 0x04 ∷ 0x00 ∷ 0x10 ∷ 0x15 ∷ codes "UI" ++ 0x1a ∷ 0x00 ∷ codes "1.2.840.10008.5.1.4.1.1.2" ++ 0x00
+    ∷ 0x04 ∷ 0x00 ∷ 0x11 ∷ 0x15 ∷ codes "UI" ++ 0x06 ∷ 0x00 ∷ codes "1.2.5" ++ 0x00
+    ∷ 0x04 ∷ 0x00 ∷ 0x12 ∷ 0x15 ∷ codes "UI" ++ 0x14 ∷ 0x00 ∷ codes "1.2.840.10008.1.2.1" ++ 0x00
+    ∷ 0x08 ∷ 0x00 ∷ 0x05 ∷ 0x00 ∷ codes "CS" ++ 0x0a ∷ 0x00 ∷ codes "ISO_IR 100"
+    ++ 0x08 ∷ 0x00 ∷ 0x20 ∷ 0x00 ∷ codes "DA" ++ 0x08 ∷ 0x00 ∷ codes "20260102"
+    ++ 0x08 ∷ 0x00 ∷ 0x30 ∷ 0x00 ∷ codes "TM" ++ 0x04 ∷ 0x00 ∷ codes "1015"
+    ++ 0x08 ∷ 0x00 ∷ 0x50 ∷ 0x00 ∷ codes "SH" ++ 0x00 ∷ 0x00
+    ∷ 0x08 ∷ 0x00 ∷ 0x60 ∷ 0x00 ∷ codes "CS" ++ 0x02 ∷ 0x00 ∷ codes "CT"
+    ++ 0x08 ∷ 0x00 ∷ 0x30 ∷ 0x10 ∷ codes "LO" ++ 0x00 ∷ 0x00 ∷ []
+
+-- the private block: its creator, the digest, the name, the length of the copy, and the patient's character set
+abbrev pub slice_block : List ℕ
+slice_block =
+    0x09 ∷ 0x00 ∷ 0x10 ∷ 0x00 ∷ codes "LO" ++ 0x0c ∷ 0x00 ∷ codes "DD FILESET 1"
+    ++ 0x09 ∷ 0x00 ∷ 0x01 ∷ 0x10 ∷ codes "OB" ++ 0x00 ∷ 0x00 ∷ 0x20 ∷ 0x00 ∷ 0x00 ∷ 0x00
+    ∷ codes "abcdefghijklmnopqrstuvwxyz012345"
+    ++ 0x09 ∷ 0x00 ∷ 0x05 ∷ 0x10 ∷ codes "OB" ++ 0x00 ∷ 0x00 ∷ 0x08 ∷ 0x00 ∷ 0x00 ∷ 0x00
+    ∷ codes "slice7" ++ 0x00 ∷ 0x02
+    ∷ 0x09 ∷ 0x00 ∷ 0x06 ∷ 0x10 ∷ codes "UV" ++ 0x00 ∷ 0x00 ∷ 0x08 ∷ 0x00 ∷ 0x00 ∷ 0x00
+    ∷ 0xd2 ∷ 0x04 ∷ 0x00 ∷ 0x00 ∷ 0x00 ∷ 0x00 ∷ 0x00 ∷ 0x00
+    ∷ 0x09 ∷ 0x00 ∷ 0x07 ∷ 0x10 ∷ codes "CS" ++ 0x00 ∷ 0x00 ∷ []
+
+-- in groups 0010 and 0020 the name and the ID of the patient, the UIDs of study and series, the ID of the study, and
+-- the numbers of series and instance
+abbrev pub slice_rest : List ℕ
+slice_rest =
+    0x10 ∷ 0x00 ∷ 0x10 ∷ 0x00 ∷ codes "PN" ++ 0x08 ∷ 0x00 ∷ codes "Roe^Jane"
+    ++ 0x10 ∷ 0x00 ∷ 0x20 ∷ 0x00 ∷ codes "LO" ++ 0x04 ∷ 0x00 ∷ codes "P-1" ++ 0x20
+    ∷ 0x20 ∷ 0x00 ∷ 0x0d ∷ 0x00 ∷ codes "UI" ++ 0x06 ∷ 0x00 ∷ codes "1.2.3" ++ 0x00
+    ∷ 0x20 ∷ 0x00 ∷ 0x0e ∷ 0x00 ∷ codes "UI" ++ 0x06 ∷ 0x00 ∷ codes "1.2.4" ++ 0x00
+    ∷ 0x20 ∷ 0x00 ∷ 0x10 ∷ 0x00 ∷ codes "SH" ++ 0x02 ∷ 0x00 ∷ codes "S1"
+    ++ 0x20 ∷ 0x00 ∷ 0x11 ∷ 0x00 ∷ codes "IS" ++ 0x02 ∷ 0x00 ∷ codes "2" ++ 0x20
+    ∷ 0x20 ∷ 0x00 ∷ 0x13 ∷ 0x00 ∷ codes "IS" ++ 0x02 ∷ 0x00 ∷ codes "7" ++ 0x20 ∷ []
