@@ -1,7 +1,10 @@
 -- Digests are set in places.
-use Rattle.std.proofs.Common.{◌≡◌, ℕ, Bool, List, Option, None, Some, true, false, refl, ap, sym, ◌∙◌, subst}
+use Rattle.std.proofs.Common.{◌≡◌, ℕ, Bool, List, Option, None, Some, Result, Ok, Err, true, false}
+use Rattle.std.proofs.Common.{refl, ap, sym, ◌∙◌, subst}
 use Rattle.sha2.specs.Sha256.{sha256}
 use Rattle.sha2.specs.declared.Sha256.{Sha256}
+use Rattle.dd_keys.specs.Kept.{digested_by}
+use Rattle.dd_keys.specs.declared.fault.KeyFault.{KeyFault}
 use Rattle.dd_slots.specs.Slots.{IsSlotOf}
 use Rattle.dd_slots.specs.declared.slot.Slot.{Slot}
 use Rattle.dd_version.specs.Copies.{with_digest}
@@ -13,21 +16,26 @@ use Rattle.dd_filing.specs.declared.places.Place.{Place}
 
 -- ---- what was found
 
--- the version that was read has the digest of the bytes in the slot
-file_digested : (slot : Slot) (version : Parts) (was : Bool) (digest : List ℕ) → HasFile slot version was
+abbrev version_of : Parts → Result Parts KeyFault
+version_of version = Ok version
+
+-- a version that was read has the digest of the bytes in the slot
+file_digested : (slot : Slot) (answer : Result Parts KeyFault) (was : Bool) (digest : List ℕ) → HasFile slot answer was
     → ((bytes : List ℕ) → IsSlotOf slot bytes → digest ≡ sha256 bytes)
-    → HasFile slot (with_digest version digest) true
-file_digested slot version was digest h is = record {
+    → HasFile slot (digested_by digest answer) true
+file_digested slot (Ok version) was digest h is = record {
   bytes = h.bytes;
   kept = h.kept;
   is = h.is;
-  set = λ _. is h.bytes h.kept;
+  set = λ _. ap (λ (digest : List ℕ). version_of (with_digest version digest)) (is h.bytes h.kept);
 }
+file_digested slot (Err fault) was digest h is =
+    record { bytes = h.bytes; kept = h.kept; is = h.is; set = λ _. refl }
 
 place_of : (slot : Slot) (old : Found) (was : Bool) (digest : List ℕ) → IsPlace slot old was
     → ((bytes : List ℕ) → IsSlotOf slot bytes → digest ≡ sha256 bytes)
     → IsPlace slot (found_with old digest) true
-place_of slot (found.Version version) was digest h is = file_digested slot version was digest h is
+place_of slot (found.Whole answer) was digest h is = file_digested slot answer was digest h is
 place_of slot found.Nothing was digest h is = tt
 place_of slot found.Absent was digest h is = tt
 place_of slot found.Unread was digest h is = tt
@@ -40,7 +48,7 @@ place_digested old new was by h =
 
 -- a place whose digest may be set is one whose digest may be open
 pub place_open : (slot : Slot) (one : Found) (was : Bool) → IsPlace slot one was → IsPlace slot one false
-place_open slot (found.Version version) was h =
+place_open slot (found.Whole answer) was h =
     record { bytes = h.bytes; kept = h.kept; is = h.is; set = λ e. absurd (cc) }
 place_open slot found.Nothing was h = tt
 place_open slot found.Absent was h = tt
@@ -54,8 +62,8 @@ known_same found.Nothing hasher kept digest = refl
 known_same found.Absent hasher kept digest = refl
 known_same found.Unread None kept digest = refl
 known_same found.Unread (Some hasher) kept digest = refl
-known_same (found.Version version) None kept digest = refl
-known_same (found.Version version) (Some hasher) kept digest = refl
+known_same (found.Whole answer) None kept digest = refl
+known_same (found.Whole answer) (Some hasher) kept digest = refl
 
 pub known_digested : (old new : Place) → IsDigested old new → known_of new ≡ known_of old
 known_digested old new by =

@@ -5,25 +5,15 @@ use Rattle.std.specs.Prelude.{IsNone}
 use Rattle.sha2.specs.Sha256.{sha256}
 use Rattle.sha2.specs.declared.Sha256.{Sha256}
 use Rattle.dd_slots.specs.Slots.{HasTaken, IsSlotOf}
-use Rattle.dd_stream.specs.Streams.{Ends}
-use Rattle.dd_stream.specs.declared.end.End.TheVariants.{Ended}
-use Rattle.dd_version.specs.declared.parts.Parts.{Parts}
 use Rattle.dd_filing.proofs.Digested.{known_digested, place_digested, place_open}
-use Rattle.dd_filing.specs.Ahead.{ArePlaces, IsDigested, IsPlace, IsReadAhead, files_of, found_with, known_by, known_of}
+use Rattle.dd_filing.specs.Ahead.{ArePlaces, IsDigested, IsPlace, files_of, found_with, known_by, known_of}
 use Rattle.dd_filing.specs.Ahead.{shown, with_file}
 use Rattle.dd_filing.specs.declared.places.Ahead.{Ahead}
 use Rattle.dd_filing.specs.declared.places.Ahead.TheVariants as known
 use Rattle.dd_filing.specs.declared.places.Found.{Found}
-use Rattle.dd_filing.specs.declared.places.Found.TheVariants.{Unread, Version}
+use Rattle.dd_filing.specs.declared.places.Found.TheVariants.{Unread}
 use Rattle.dd_filing.specs.declared.places.Place.{Place}
 use Rattle.dd_filing.specs.declared.places.Places.{Places}
-
--- a file that was read whole
-pub read_whole : (hasher : Option Sha256) (version : Parts) (limit : ℕ) (kept given : List ℕ)
-    (left : Option (List ℕ)) (old new : ℕ) → HasTaken hasher kept given → Ends Ended limit given left old new
-    → IsReadAhead (known_by (Version version) hasher kept) limit given left old new
-read_whole None version limit kept given left old new taken end = (taken, end)
-read_whole (Some hasher) version limit kept given left old new taken end = tt
 
 -- bytes of a file whose reader failed
 unread_kept : (digested : Bool) (hasher : Option Sha256) (kept bytes : List ℕ) → IsNone hasher

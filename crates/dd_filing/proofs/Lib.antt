@@ -1,6 +1,9 @@
 mod Comparing
 mod Copied
+mod CopiedVersions
 mod Digested
 mod Knowing
+mod Measuring
 mod Passing
+mod ReadingAhead
 mod Sending

@@ -1,17 +1,20 @@
 -- What is known of files ahead of their copies, and what writing a file that was read answers.
 use Rattle.std.specs.Prelude.{◌≡◌, ◌≤◌, ℕ, Bool, true, false, List, [], ◌∷◌, ◌++◌, take, get_or}
-use Rattle.std.specs.Prelude.{Option, None, Result, Ok, Err, ⊤, if◌then◌else◌}
+use Rattle.std.specs.Prelude.{Option, None, Result, Ok, Err, IfErr, ⊤, if◌then◌else◌}
 use Rattle.sha2.specs.Sha256.{sha256}
 use Rattle.sha2.specs.declared.Sha256.{Sha256}
 use Rattle.dd_elem.specs.declared.device.Write.{Ghosts as WriteOf}
-use Rattle.dd_keys.specs.Versions.{IsVersion}
+use Rattle.dd_keys.specs.Kept.{digested_by}
+use Rattle.dd_keys.specs.declared.fault.KeyFault.{KeyFault}
+use Rattle.dd_keys.specs.declared.fault.KeyFault.TheVariants.{Read}
 use Rattle.dd_slots.specs.Slots.{IsSlotOf}
 use Rattle.dd_slots.specs.declared.slot.Slot.{Slot}
 use Rattle.dd_stream.specs.Sends.{GoesTo, StopsIn}
 use Rattle.dd_stream.specs.Streams.{Ends}
 use Rattle.dd_stream.specs.declared.end.End.TheVariants.{Ended, Failed}
-use Rattle.dd_version.specs.Copies.{with_digest}
 use Rattle.dd_version.specs.declared.parts.Parts.{Parts}
+use Rattle.dd_filing.specs.Copies.{IsFoundIn}
+use Rattle.dd_filing.specs.CopySteps.{IsFilingFault}
 use Rattle.dd_filing.specs.Filing.{IsFileAs}
 use Rattle.dd_filing.specs.Taken.{Taken}
 use Rattle.dd_filing.specs.declared.agreeing.Filed.{Filed}
@@ -72,23 +75,30 @@ first_left all = shown all.digested (get_or all.files all.past known.Unknown)
 
 -- ---- places
 
--- the slot has the bytes of a file of this version, whose digest may not be set yet
-pub record HasFile (slot : Slot) (version : Parts) (digested : Bool) : Type 0 where
+-- what a place keeps of the answer for a file: nothing where the file is too long, or an allocation was refused
+abbrev pub IsFoundBy : Result Parts KeyFault → Found → Type 0
+IsFoundBy answer (found.Whole same) = (same ≡ answer) × IfErr answer (λ fault. IsFilingFault fault None)
+IsFoundBy answer found.Unread = answer ≡ Err Read
+IsFoundBy (Err fault) found.Nothing = ¬ IsFilingFault fault None
+IsFoundBy answer other = ⊥
+
+-- the slot has the bytes of a file, and this is found of them; the digest of a version may not be set yet
+pub record HasFile (slot : Slot) (answer : Result Parts KeyFault) (digested : Bool) : Type 0 where
   pub bytes : List ℕ
   pub kept : IsSlotOf slot bytes
-  pub is : IsVersion bytes (with_digest version (sha256 bytes))
-  pub set : digested ≡ true → version.digest ≡ sha256 bytes
+  pub is : IsFoundIn bytes (digested_by (sha256 bytes) answer)
+  pub set : digested ≡ true → answer ≡ digested_by (sha256 bytes) answer
 
--- a place without a version, or with a file of this one
+-- a place without a file that was read whole, or with one and what is found of it
 abbrev pub IsPlace : Slot → Found → Bool → Type 0
-IsPlace slot (found.Version version) digested = HasFile slot version digested
+IsPlace slot (found.Whole answer) digested = HasFile slot answer digested
 IsPlace slot other digested = Unit {0}
 
 -- what a place knows: bytes that were hashed during the read are not there
 abbrev pub known_by : Found → Option Sha256 → List ℕ → Ahead
 known_by found.Absent hasher kept = known.Absent
 known_by found.Unread None kept = known.File (record { bytes = kept; whole = false })
-known_by (found.Version version) None kept = known.File (record { bytes = kept; whole = true })
+known_by (found.Whole answer) None kept = known.File (record { bytes = kept; whole = true })
 known_by other hasher kept = known.Unknown
 
 abbrev pub known_of : Place → Ahead
@@ -112,7 +122,7 @@ ArePlaces all digested = (all.held ≤ 8)
 
 -- a version that was found gets this digest
 abbrev pub found_with : Found → List ℕ → Found
-found_with (found.Version version) digest = found.Version (with_digest version digest)
+found_with (found.Whole answer) digest = found.Whole (digested_by digest answer)
 found_with other digest = other
 
 -- the version in a place gets the digest of the bytes in its slot

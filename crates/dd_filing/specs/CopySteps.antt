@@ -16,9 +16,8 @@ IsFilingFault fault (Some Changed) = fault ≡ FileTooLong
 IsFilingFault fault (Some Unsent) = ⊥
 IsFilingFault fault None = (fault ≢ Read) × ((fault ≢ FileTooLong) × ¬ SaysMemory fault)
 
--- the answer of a copy for the answer of reading the version
-abbrev pub IsCopyAnswer : Result Parts KeyFault → Result (Option Parts) FilingFault → Type 0
-IsCopyAnswer (Ok version) answer = answer ≡ Ok (Some version)
-IsCopyAnswer (Err fault) (Ok (Some version)) = ⊥
-IsCopyAnswer (Err fault) (Ok None) = IsFilingFault fault None
-IsCopyAnswer (Err fault) (Err refused) = IsFilingFault fault (Some refused)
+-- the answer of a copy for what was found of it, where no fault of its bytes is asked for but that they are too many
+abbrev pub version_answer : Result Parts KeyFault → Result (Option Parts) FilingFault
+version_answer (Ok version) = Ok (Some version)
+version_answer (Err FileTooLong) = Err Changed
+version_answer (Err fault) = Ok None

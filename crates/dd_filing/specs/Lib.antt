@@ -1,4 +1,5 @@
 pub mod Ahead
+pub mod Copies
 pub mod CopySteps
 pub mod Filing
 pub mod Sent

@@ -1,9 +1,11 @@
 ghost use Rattle.std.specs.Prelude.{◌≡◌, ℕ, List};
 ghost use Rattle.dd_version.specs.declared.parts.Parts.{Parts};
+ghost use Rattle.dd_filing.specs.Copies.{IsFoundIn};
 ghost use Rattle.dd_filing.specs.Filing.{IsFileAs, IsVersionAs};
 ghost use Rattle.dd_filing.specs.declared.agreeing.Filed.{Filed};
 
-use dd_version::{Parts, is_filed_as};
+use dd_keys::{KeyFault, one_version};
+use dd_version::{Parts, Version, is_filed_as};
 
 /// Says what a copied file is, compared with the planned version.
 #[derive(Clone, Copy, Debug, PartialEq, Eq)]
@@ -26,6 +28,17 @@ impl Filed {
             Filed::AsPlanned
         } else {
             Filed::Mislabelled
+        }
+    }
+
+    /// Compares a file with the planned version, by what was found of its bytes.
+    pub(crate) fn of_found(found: &Result<Version, KeyFault>, planned: &Version) -> Filed
+        ensures { (file : List ℕ) → IsFoundIn file found.now → IsFileAs planned.now result file }
+    {
+        one_version();
+        match found {
+            Ok(version) => Filed::of(version.parts(), planned.parts()),
+            Err(_) => Filed::Mislabelled,
         }
     }
 }

@@ -1,6 +1,7 @@
 //! Files that are read ahead of their copies, so that several are digested at once.
 
 ghost use Rattle.std.specs.Prelude.{◌≡◌, ◌↔◌, ◌<◌, ◌≤◌, ◌+◌, true, length, min, IsTrue};
+ghost use Rattle.dd_slots.specs.Slots.{lane_count};
 ghost use Rattle.dd_stream.specs.Reads.{ReadsUpTo};
 ghost use Rattle.dd_filing.specs.Ahead.{IsReadAhead, ahead_limit, first_left, no_files, with_file};
 ghost use Rattle.dd_filing.specs.declared.places.Ahead.{Ahead};
@@ -48,17 +49,17 @@ impl FilesAhead {
         }
     }
 
-    /// Forgets all files, and keeps their memory.
-    pub fn clear(&mut self)
+    /// Forgets all files, and gives back memory above 128 KiB of each where eight are digested at once.
+    pub fn release(&mut self, lanes: Lanes)
         ensures { self.new ≡ no_files }
     {
-        self.places.clear();
+        self.places.release(lanes);
         self.past = 0;
         self.is_digested = false;
     }
 
-    /// Reads the next file. Reads nothing where `FILES_AHEAD` files are there. A file that is too long or of no
-    /// version, or whose allocation is refused, is `Unknown`.
+    /// Reads the next file. Reads nothing where `FILES_AHEAD` files are there. A file that is too long, or whose
+    /// allocation is refused, is `Unknown`.
     pub fn read<R: Read>(&mut self, alloc: Global, reader: &mut R)
         ensures room { length self.old.files < 8 → ReadsUpTo R.Read ahead_limit reader.old reader.new
             (λ given left failures after. (file : Ahead) × ((self.new ≡ with_file self.old file)
@@ -104,6 +105,14 @@ impl FilesAhead {
         ensures { IsTrue result ↔ 8 ≤ length self.now.files }
     {
         self.places.held >= FILES_AHEAD
+    }
+
+    /// Says whether these files are to be digested before another is read: there are as many as lanes, or memory has no
+    /// room for another.
+    pub fn is_enough(&self, lanes: Lanes) -> bool
+        ensures { lane_count lanes ≤ length self.now.files → IsTrue result }
+    {
+        self.places.held >= lanes.count() || self.places.bytes >= lanes.most_bytes()
     }
 
     /// Digests the files that were read, as many side by side as `lanes` says. Before that, a file that was read whole

@@ -5,10 +5,15 @@
 mod agreeing;
 mod copying;
 mod files_ahead;
+mod filing;
+mod measured;
 mod places;
+mod source_copies;
 mod tee;
 
 pub use agreeing::{Filed, one_filed};
-pub use copying::{FilingFault, copy_version, file_image};
+pub use copying::FilingFault;
 pub use files_ahead::{FILES_AHEAD, FilesAhead};
-pub use places::{Ahead, FileAhead};
+pub use filing::{copy_version, file_image};
+pub use places::{AHEAD_LIMIT, Ahead, FileAhead};
+pub use source_copies::{SourceCopy, copy_source};

@@ -2,15 +2,17 @@
 
 ghost use Rattle.std.specs.Prelude.{◌≡◌, ◌<◌, ◌+◌, ◌++◌, ◌∷◌, [], Bool, false, get_or};
 ghost use Rattle.dd_stream.specs.Reads.{ReadsUpTo};
-ghost use Rattle.dd_filing.specs.Ahead.{ArePlaces, IsDigested, IsPlace, IsReadAhead, IsSentAhead, ahead_limit};
-ghost use Rattle.dd_filing.specs.Ahead.{files_of, found_with, known_of, shown};
+ghost use Rattle.dd_filing.specs.Ahead.{ArePlaces, IsDigested, IsFoundBy, IsPlace, IsReadAhead, IsSentAhead};
+ghost use Rattle.dd_filing.specs.Ahead.{ahead_limit, files_of, found_with, known_of, shown};
+ghost use Rattle.dd_filing.specs.Copies.{IsAheadCopy};
 ghost use Rattle.dd_filing.specs.declared.places.Ahead.TheVariants as known;
 ghost use Rattle.dd_filing.specs.declared.places.Found.TheVariants.{Absent, Nothing};
 
 use crate::agreeing::Filed;
-use crate::copying::FilingFault;
+use crate::copying::{FilingFault, filing_fault};
+use crate::source_copies::SourceCopy;
 use dd_elem::{Read, Write};
-use dd_keys::{KeyFault, ingest_kept, one_version};
+use dd_keys::{KeyFault, ingest_kept};
 use dd_slots::{Lanes, Slot, digest_slots};
 use dd_stream::send;
 use dd_version::Version;
@@ -18,8 +20,8 @@ use std::alloc::Global;
 use std::marker::Model;
 use std::mem;
 
-/// One byte less than a slot keeps, which then need not hash a longer file.
-const AHEAD_LIMIT: u64 = 8 * 1024 * 1024 - 1;
+/// Limits the bytes of a file that is read ahead: one less than a slot keeps, which then need not hash a longer file.
+pub const AHEAD_LIMIT: u64 = 8 * 1024 * 1024 - 1;
 
 /// Says what is known of a file before it is copied.
 #[derive(Drop)]
@@ -32,23 +34,24 @@ pub enum Ahead<'a> {
     Unknown,
 }
 
-/// Holds the bytes of a file that was read ahead, and its version where the reader came to its end.
+/// Holds the bytes of a file that was read ahead. Where the reader came to its end, also the version of the file, or
+/// the fault by which it has none.
 #[derive(Drop)]
 pub struct FileAhead<'a> {
     bytes: &'a [u8],
-    version: Option<&'a Version>,
+    found: Option<&'a Result<Version, KeyFault>>,
 }
 
 impl<'a> Model for FileAhead<'a> {
     ghost use Rattle.std.specs.Prelude.{IfSome, is_some};
-    ghost use Rattle.dd_keys.specs.Versions.{IsVersion};
+    ghost use Rattle.dd_filing.specs.Copies.{IsFoundIn};
     ghost use Rattle.dd_filing.specs.Taken.{Taken};
 
     ghost Value = { Taken };
 
-    ghost view = { λ file. record { bytes = file.bytes.now; whole = is_some file.version } };
+    ghost view = { λ file. record { bytes = file.bytes.now; whole = is_some file.found } };
 
-    ghost invariant = { λ file. IfSome file.version (λ version. IsVersion file.bytes.now version.now) };
+    ghost invariant = { λ file. IfSome file.found (λ found. IsFoundIn file.bytes.now found.now) };
 }
 
 impl FileAhead<'_> {
@@ -57,13 +60,36 @@ impl FileAhead<'_> {
     pub fn copy_to<W: Write>(&self, writer: &mut W, planned: &Version) -> Result<Filed, FilingFault>
         ensures { IsSentAhead W.Write writer.old writer.new planned.now result self.now }
     {
-        one_version();
         match send(self.bytes, writer, 0) {
-            Ok(_) => match self.version {
-                Some(version) => Ok(Filed::of(version.parts(), planned.parts())),
+            Ok(_) => match self.found {
+                Some(found) => Ok(Filed::of_found(found, planned)),
                 None => Err(FilingFault::Unread),
             },
             Err(_) => Err(FilingFault::Unsent),
+        }
+    }
+
+    /// Writes the file, and gives its length with its version or fault. Unsent where the writer fails, after a first
+    /// part; Unread where the reader of the file had failed; Memory where the version can't be copied.
+    pub fn copy_source_to<W: Write>(&self, writer: &mut W) -> Result<SourceCopy, FilingFault>
+        ensures { IsAheadCopy W.Write writer.old writer.new result self.now }
+    {
+        let Ok(size) = send(self.bytes, writer, 0) else {
+            return Err(FilingFault::Unsent);
+        };
+        match self.found {
+            Some(Ok(version)) => match version.copy() {
+                Ok(version) => Ok(SourceCopy {
+                    size,
+                    found: Ok(version),
+                }),
+                Err(_) => Err(FilingFault::Memory),
+            },
+            Some(Err(fault)) => Ok(SourceCopy {
+                size,
+                found: Err(*fault),
+            }),
+            None => Err(FilingFault::Unread),
         }
     }
 }
@@ -76,8 +102,8 @@ pub(crate) enum Found {
     Absent,
     /// Its reader failed.
     Unread,
-    /// Its digest may be open.
-    Version(Version),
+    /// Its reader came to its end. The digest of the version may be open.
+    Whole(Result<Version, KeyFault>),
 }
 
 #[derive(Drop)]
@@ -103,6 +129,13 @@ impl Place {
         self.found = Found::Nothing;
     }
 
+    pub(crate) fn release(&mut self, lanes: Lanes)
+        ensures { self.new.found ≡ Nothing }
+    {
+        self.slot.release(lanes);
+        self.found = Found::Nothing;
+    }
+
     pub(crate) fn refuse(&mut self)
         ensures { self.new.found ≡ Absent }
     {
@@ -110,17 +143,14 @@ impl Place {
         self.found = Found::Absent;
     }
 
-    /// Finds nothing where the file is too long or of no version, or an allocation is refused.
+    /// Finds nothing where the file is too long, or an allocation is refused.
     pub(crate) fn read<R: Read>(&mut self, alloc: Global, reader: &mut R)
         ensures place { IsPlace self.new.slot self.new.found false }
         ensures read { ReadsUpTo R.Read ahead_limit reader.old reader.new
             (IsReadAhead (known_of self.new) ahead_limit) }
     {
-        match ingest_kept(alloc, reader, &mut self.slot, AHEAD_LIMIT) {
-            Ok(version) => self.found = Found::Version(version),
-            Err(KeyFault::Read) => self.found = Found::Unread,
-            Err(_) => self.found = Found::Nothing,
-        }
+        let answer = ingest_kept(alloc, reader, &mut self.slot, AHEAD_LIMIT);
+        self.found = found_by(answer);
     }
 
     pub(crate) fn ahead(&self, is_digested: bool) -> Ahead<'_>
@@ -129,13 +159,10 @@ impl Place {
     {
         match (&self.found, self.slot.bytes()) {
             (Found::Absent, _) => Ahead::Absent,
-            (Found::Unread, Some(bytes)) => Ahead::File(FileAhead {
+            (Found::Unread, Some(bytes)) => Ahead::File(FileAhead { bytes, found: None }),
+            (Found::Whole(found), Some(bytes)) if is_digested => Ahead::File(FileAhead {
                 bytes,
-                version: None,
-            }),
-            (Found::Version(version), Some(bytes)) if is_digested => Ahead::File(FileAhead {
-                bytes,
-                version: Some(version),
+                found: Some(found),
             }),
             _ => Ahead::Unknown,
         }
@@ -155,6 +182,8 @@ pub(crate) struct Places {
     /// The place of the next file: the eighth once seven are held.
     pub(crate) latest: Place,
     pub(crate) held: usize,
+    /// The bytes of the held files that are in memory.
+    pub(crate) bytes: usize,
 }
 
 impl Places {
@@ -172,24 +201,26 @@ impl Places {
             seventh: Place::new(alloc),
             latest: Place::new(alloc),
             held: 0,
+            bytes: 0,
         }
     }
 
-    /// Forgets all files, and keeps their memory.
-    pub(crate) fn clear(&mut self)
+    /// Forgets all files, and gives back memory above 128 KiB of each where eight are digested at once.
+    pub(crate) fn release(&mut self, lanes: Lanes)
         ensures none { self.new.held ≡ 0 }
         ensures places { (digested : Bool) → ArePlaces self.new digested }
     {
         self.swap_back();
-        self.first.clear();
-        self.second.clear();
-        self.third.clear();
-        self.fourth.clear();
-        self.fifth.clear();
-        self.sixth.clear();
-        self.seventh.clear();
-        self.latest.clear();
+        self.first.release(lanes);
+        self.second.release(lanes);
+        self.third.release(lanes);
+        self.fourth.release(lanes);
+        self.fifth.release(lanes);
+        self.sixth.release(lanes);
+        self.seventh.release(lanes);
+        self.latest.release(lanes);
         self.held = 0;
+        self.bytes = 0;
     }
 
     /// Makes the place that was held last the latest again: places that were never held then get no memory.
@@ -213,6 +244,7 @@ impl Places {
         ensures files { files_of self.new ≡ files_of self.old ++ known_of self.old.latest ∷ [] }
         ensures places { (digested : Bool) → ArePlaces self.old digested → ArePlaces self.new digested }
     {
+        self.bytes = self.bytes.saturating_add(self.latest.slot.len());
         match self.held {
             0 => mem::swap(&mut self.first, &mut self.latest),
             1 => mem::swap(&mut self.second, &mut self.latest),
@@ -283,10 +315,23 @@ impl Places {
     }
 }
 
+fn found_by(answer: Result<Version, KeyFault>) -> Found
+    ensures { IsFoundBy answer result }
+{
+    match answer {
+        Ok(version) => Found::Whole(Ok(version)),
+        Err(fault) => match filing_fault(&fault) {
+            None => Found::Whole(Err(fault)),
+            Some(FilingFault::Unread) => Found::Unread,
+            Some(_) => Found::Nothing,
+        },
+    }
+}
+
 fn set_digest(found: &mut Found, digest: [u8; 32])
     ensures { found.new ≡ found_with found.old digest }
 {
-    if let Found::Version(version) = found {
+    if let Found::Whole(Ok(version)) = found {
         version.set_digest(digest);
     }
 }

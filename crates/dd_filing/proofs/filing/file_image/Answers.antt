@@ -1,6 +1,6 @@
 -- The copied file is what the version is that was read of it.
 use Rattle.dd_filing.proofs.Comparing.{no_version_filed, version_filed}
-use Rattle.dd_filing.proofs.copying.file_image.Goals as goal
+use Rattle.dd_filing.proofs.filing.file_image.Goals as goal
 
 pub returns-in-Ok-Some : goal.returns-in-Ok-Some
 returns-in-Ok-Some g c =
