@@ -171,7 +171,7 @@ answers_more limit next contents answers answer many h last = record {
       (λ is. subst (λ (n : ℕ). IsAnswer limit (contents n) answer) (sym (is ∙ many)) last);
 }
 
-accepted_more : (at next : ℕ) (answers : List Answer) (answer : Answer) → at + length answers ≡ next
+pub accepted_more : (at next : ℕ) (answers : List Answer) (answer : Answer) → at + length answers ≡ next
     → accepted_from at (answers ++ answer ∷ []) ≡ accepted_from at answers ++ accepted_from next (answer ∷ [])
 accepted_more at next [] answer many =
     let is : at ≡ next = omega arith in ap (λ (n : ℕ). accepted_from n (answer ∷ [])) is
@@ -179,7 +179,7 @@ accepted_more at next (Ok version ∷ answers) answer many =
     ap (λ (rest : List Sourced). (at, version) ∷ rest) (accepted_more (suc at) next answers answer (omega arith))
 accepted_more at next (Err fault ∷ answers) answer many = accepted_more (suc at) next answers answer (omega arith)
 
-skipped_more : (at next : ℕ) (answers : List Answer) (answer : Answer) → at + length answers ≡ next
+pub skipped_more : (at next : ℕ) (answers : List Answer) (answer : Answer) → at + length answers ≡ next
     → skipped_from at (answers ++ answer ∷ []) ≡ skipped_from at answers ++ skipped_from next (answer ∷ [])
 skipped_more at next [] answer many =
     let is : at ≡ next = omega arith in ap (λ (n : ℕ). skipped_from n (answer ∷ [])) is

@@ -3,6 +3,7 @@ mod BothFound
 mod CountedImages
 pub mod FaultsNamed
 mod FilesLeftOut
+mod Found
 mod FirstMarks
 mod FirstMentions
 mod FirstSaying
@@ -13,7 +14,7 @@ mod KeptImages
 mod KeyOrder
 mod Lending
 mod MergePlans
-mod MergedMaps
+pub mod MergedMaps
 mod NamedPatients
 mod NamingGroups
 mod NewUids

@@ -1,6 +1,7 @@
 pub mod Batches
 pub mod Choosing
 pub mod IndexNotes
+pub mod Found
 pub mod Indexed
 pub mod Indexing
 pub mod Mentions

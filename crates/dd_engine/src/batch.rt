@@ -1,7 +1,7 @@
 //! Versions whose digests are open, until as many as there are lanes are set at once.
-ghost use Rattle.std.specs.Prelude.{◌≡◌, ◌<◌, ◌≤◌, ◌+◌, ◌++◌, ◌∷◌, ℕ, List, [], length};
+ghost use Rattle.std.specs.Prelude.{◌≡◌, ◌<◌, ◌≤◌, ◌+◌, ◌++◌, ◌∷◌, ℕ, List, [], false, length};
 ghost use Rattle.sha2.specs.Sha256.{sha256};
-ghost use Rattle.dd_slots.specs.Slots.{IsSlotOf};
+ghost use Rattle.dd_slots.specs.Slots.{IsSlotOf, lane_count};
 ghost use Rattle.dd_version.specs.Copies.{with_digest};
 ghost use Rattle.dd_version.specs.declared.parts.Parts.{Parts};
 ghost use Rattle.dd_engine.specs.Batches.{HasRoom, IsOpen, open_slots};
@@ -25,6 +25,8 @@ pub(crate) struct Batch {
     /// The slot of the source that is read next: the eighth once seven versions are open.
     pub(crate) next: Slot,
     used: usize,
+    /// The bytes of the open versions that are in memory.
+    bytes: usize,
     lanes: Lanes,
 }
 
@@ -42,12 +44,13 @@ impl Batch {
             seventh: Slot::new(alloc),
             next: Slot::new(alloc),
             used: 0,
+            bytes: 0,
             lanes,
         }
     }
 
     /// Adds the next slot, which has the bytes of the last of these versions. Where as many versions are open as there
-    /// are lanes, sets their digests.
+    /// are lanes, or their slots have no room for another's, sets their digests.
     pub(crate) fn add(&mut self, versions: &mut Vec<Version>)
         requires room { self.old.used < 8 }
         requires there { self.old.used < length versions.old.items }
@@ -58,7 +61,7 @@ impl Batch {
             → IsOpen self.new versions.new.items (closed ++ with_digest version (sha256 bytes) ∷ []) }
     {
         self.shift();
-        if self.used >= self.lanes.count() {
+        if self.is_full() {
             self.settle(versions);
         }
     }
@@ -73,11 +76,18 @@ impl Batch {
         self.settle(versions);
     }
 
+    fn is_full(&self) -> bool
+        ensures { result ≡ false → self.now.used < lane_count self.now.lanes }
+    {
+        self.used >= self.lanes.count() || self.bytes >= self.lanes.most_bytes()
+    }
+
     fn shift(&mut self)
         requires { self.old.used < 8 }
         ensures used { self.new.used ≡ self.old.used + 1 }
         ensures slots { open_slots self.new ≡ open_slots self.old ++ self.old.next ∷ [] }
     {
+        self.bytes = self.bytes.saturating_add(self.next.len());
         match self.used {
             0 => mem::swap(&mut self.first, &mut self.next),
             1 => mem::swap(&mut self.second, &mut self.next),
@@ -111,17 +121,22 @@ impl Batch {
         self.empty();
     }
 
+    /// Empties the slots. The fourth of four becomes the next again, so that batches of four give no fifth slot memory.
     fn empty(&mut self)
         ensures { self.new.used ≡ 0 }
     {
-        self.first.clear();
-        self.second.clear();
-        self.third.clear();
-        self.fourth.clear();
-        self.fifth.clear();
-        self.sixth.clear();
-        self.seventh.clear();
-        self.next.clear();
+        if self.used == 4 {
+            mem::swap(&mut self.fourth, &mut self.next);
+        }
+        self.first.release(self.lanes);
+        self.second.release(self.lanes);
+        self.third.release(self.lanes);
+        self.fourth.release(self.lanes);
+        self.fifth.release(self.lanes);
+        self.sixth.release(self.lanes);
+        self.seventh.release(self.lanes);
+        self.next.release(self.lanes);
         self.used = 0;
+        self.bytes = 0;
     }
 }

@@ -1,4 +1,4 @@
-ghost use Rattle.std.specs.Prelude.{◌≡◌, ◌+◌, List, IfErr, IfOk, IsOk};
+ghost use Rattle.std.specs.Prelude.{◌≡◌, ◌+◌, List, IfErr, IfOk, IsOk, length};
 ghost use Rattle.dd_engine.specs.Indexed.{IsNamed, IsWithin};
 ghost use Rattle.dd_engine.specs.Indexing.{Answer};
 ghost use Rattle.dd_engine.specs.IndexNotes.{FindsBoth, NotesIndex, NotesSupply};
@@ -78,7 +78,7 @@ pub(crate) fn noted_plan(
     choice: &Choice,
     limits: Limits,
 ) -> Result<NotedIndex, NotedFault<EngineFault, usize>>
-    requires { (answers : List Answer) × Holds answers sources }
+    requires { length sources.origins.items ≡ length sources.versions.items }
     ensures { (answers : List Answer) → Holds answers sources
         → NotesIndex choice.now limits answers result }
 {

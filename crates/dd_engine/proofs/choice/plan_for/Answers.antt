@@ -10,15 +10,15 @@ returns-in-None-clause-planned c = λ m is. IfOk-weaker c.lay_out_derived_harmon
     c.lay_out_derived_harmony.ensures.planned
 
 pub returns-in-None-clause-allowed : goal.returns-in-None-clause-allowed
-returns-in-None-clause-allowed c = λ m none is ok.
-    derived_excess c.args.choice.now c.args.limits m c.args.harmony.versions c.args.harmony.withdrawn c.in-None.is none
+returns-in-None-clause-allowed c = λ m absent is ok.
+    derived_excess c.args.choice.now c.args.limits m c.args.harmony.versions c.args.harmony.withdrawn c.in-None.is absent
     is ∙ c.lay_out_derived_harmony.ensures.allowed ok
 
 pub returns-in-None-clause-refused : goal.returns-in-None-clause-refused
-returns-in-None-clause-refused c = λ m none is. IfErr-weaker c.lay_out_derived_harmony.result _ _
+returns-in-None-clause-refused c = λ m absent is. IfErr-weaker c.lay_out_derived_harmony.result _ _
     (λ fault h. elim h [
       | inl lacks ↦ inl lacks
       | inr excess ↦ inr (derived_excess c.args.choice.now c.args.limits m c.args.harmony.versions
-          c.args.harmony.withdrawn c.in-None.is none is ∙ excess)
+          c.args.harmony.withdrawn c.in-None.is absent is ∙ excess)
     ])
     c.lay_out_derived_harmony.ensures.refused
