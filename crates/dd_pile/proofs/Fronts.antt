@@ -1,0 +1,38 @@
+-- However a copy was refused, a front of it was written and nothing else.
+use Rattle.std.proofs.Common.{◌≡◌, ℕ, List, Option, Err}
+use Rattle.std.specs.Io.KnownBytes.{Appends}
+use Rattle.dd_elem.specs.declared.device.Write.{Ghosts as WriteOf}
+use Rattle.dd_filing.specs.Copies.{IsAheadCopy, IsRefusedSource}
+use Rattle.dd_filing.specs.Taken.{Taken}
+use Rattle.dd_filing.specs.declared.copying.FilingFault.{FilingFault}
+use Rattle.dd_filing.specs.declared.copying.FilingFault.TheVariants.{Changed, Memory, Unread, Unsent}
+use Rattle.dd_stream.specs.Sends.{GoesTo, StopsIn}
+
+-- these bytes went to the writer
+pub record Front {W : Type 0} (writer : WriteOf W) (old new : W) : Type 0 where
+  pub bytes : List ℕ
+  pub stays : writer.rest new ≡ writer.rest old
+  pub holds : Appends (writer.contents old) (writer.contents new) bytes
+
+went : {W : Type 0} (writer : WriteOf W) (bytes : List ℕ) (old new : W) → GoesTo writer bytes old new
+    → Front writer old new
+went writer bytes old new h = record { bytes = bytes; stays = h.stays; holds = h.holds }
+
+stopped : {W : Type 0} (writer : WriteOf W) (bytes : List ℕ) (taken : ℕ) (old new : W)
+    → StopsIn writer bytes 0 taken old new → Front writer old new
+stopped writer bytes taken old new h = record { bytes = h.front; stays = h.stays; holds = h.holds }
+
+pub ahead_front : {W : Type 0} (writer : WriteOf W) (old new : W) (fault : FilingFault) (file : Taken)
+    → IsAheadCopy writer old new (Err fault) file → Front writer old new
+ahead_front writer old new Memory file h = went writer file.bytes old new h.1
+ahead_front writer old new Unread file h = went writer file.bytes old new h.1
+ahead_front writer old new Unsent file h = stopped writer file.bytes h.0 old new h.1
+ahead_front writer old new Changed file h = absurd h
+
+pub source_front : {W : Type 0} (writer : WriteOf W) (old new : W) (fault : FilingFault) (limit : ℕ) (given : List ℕ)
+    (left : Option (List ℕ)) (failures after : ℕ)
+    → IsRefusedSource writer old new fault limit given left failures after → Front writer old new
+source_front writer old new Memory limit given left failures after h = went writer given old new h.1.1
+source_front writer old new Unread limit given left failures after h = went writer given old new h.1
+source_front writer old new Unsent limit given left failures after h = stopped writer given h.1.0 old new h.1.1
+source_front writer old new Changed limit given left failures after h = absurd h

@@ -1,0 +1,9 @@
+mod Answered
+mod Counted
+mod FilesRead
+mod Fronts
+mod Kept
+mod KnownAhead
+mod PilePaths
+mod Refused
+mod StagedCopies

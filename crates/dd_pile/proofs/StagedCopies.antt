@@ -1,0 +1,265 @@
+-- One copy more in a pile.
+use Rattle.std.proofs.Common.{◌≡◌, ◌∙◌, ◌+◌, ◌<◌, ℕ, zero, suc, List, []}
+use Rattle.std.proofs.Common.{◌∷◌, ◌++◌, Option, None, Some, Ok, Err, length, refl, sym}
+use Rattle.std.proofs.Common.{ap, get_or, map, take, subst, arith, inl, inr, ◌⊎◌}
+use Rattle.std.proofs.lemmas.List.{length-map, length_push, map_push, take_more}
+use Rattle.std.specs.List.{AllByRecursion}
+use Rattle.std.specs.Prelude.{IfErr, IfSome, option_map, slice_get}
+use Rattle.dd_engine.specs.Indexing.{Answer}
+use Rattle.dd_engine.specs.Supply.{IsOfSource}
+use Rattle.dd_files.proofs.FileLaws.{file_here, file_there}
+use Rattle.dd_files.specs.Files.{Held, ended, published}
+use Rattle.dd_filing.specs.declared.source_copies.SourceCopy.{SourceCopy}
+use Rattle.dd_staged.specs.Sources.{Source, WasRead, source_view}
+use Rattle.dd_staged.specs.Stages.{stage_text}
+use Rattle.dd_staged.specs.declared.staged.Staged.{Staged}
+use Rattle.dd_pile.proofs.Kept.{file_stays, held_published}
+use Rattle.dd_pile.specs.Copies.{IsCopyOf, WritesCopy}
+use Rattle.dd_files.specs.Keeping.{IfSaid, IsFree, Keeps, KeepsAll}
+use Rattle.dd_pile.specs.Paths.{IsCopyPath, IsListPath}
+use Rattle.dd_pile.specs.Piles.{CopiesStand, EachStaged, IsStaged, PileStands, StagesOne, WritesList}
+use Rattle.dd_pile.specs.declared.source.StageSource.{StageSource}
+
+-- ---- a copy that has ended
+
+copy_stands : (pile : List ℕ) (number : ℕ) (source : StageSource) (copy : SourceCopy) (name path bytes : List ℕ)
+    (a c : Option Held) → IsCopyPath pile number path → IsFree path a → c ≡ option_map (published path bytes) a
+    → copy.size ≡ length bytes
+    → IfSome a (λ files. IsCopyOf (files.bytes_at source.path.now) bytes copy.found)
+    → IfSaid (StagesOne pile number source (record { name = name; size = copy.size; found = copy.found })) a c
+copy_stands pile number source copy name path bytes None c place free made size of = made
+copy_stands pile number source copy name path bytes (Some held) c place free made size of =
+    let listed : Source = record { name = name; size = copy.size; found = copy.found } in
+    subst (λ (x : Option Held). IfSaid (StagesOne pile number source listed) (Some held) x) (sym made) (record {
+      stays = record { stays = λ other was stood. file_stays path (Some bytes) held.bytes_at free other was stood };
+      staged = record {
+        path = path;
+        place = place;
+        free = free;
+        copy = bytes;
+        made = file_here path (Some bytes) held.bytes_at;
+        size = size;
+        of = record {
+          bytes = of.bytes;
+          stands = file_stays path (Some bytes) held.bytes_at free source.path.now of.bytes of.stands;
+          front = of.front;
+          found = of.found;
+        };
+      };
+      others = λ other no. file_there path other (Some bytes) held.bytes_at
+          (λ same. no (subst (λ (one : List ℕ). IsCopyPath pile number one) same place));
+    })
+
+-- what was written is the copy, once it has ended
+pub staged_one : (pile : List ℕ) (number : ℕ) (source : StageSource) (copy : SourceCopy) (name : List ℕ)
+    (a b c : Option Held) → WritesCopy pile number source.path.now copy a b → c ≡ option_map ended b
+    → IfSaid (StagesOne pile number source (record { name = name; size = copy.size; found = copy.found })) a c
+staged_one pile number source copy name a b c h closed =
+    copy_stands pile number source copy name h.starts.path h.bytes a c h.starts.place h.starts.free
+    (held_published h.starts.path h.bytes a h.start b c h.starts.started h.written closed) h.size h.of
+
+-- no read of the source failed, and no allocation was refused
+pub was_read : (found : Answer) (name : List ℕ) (size : ℕ) → IfErr found IsOfSource
+    → WasRead (record { name = name; size = size; found = found })
+was_read (Ok version) name size settled = tt
+was_read (Err fault) name size settled = record { read = settled.0; memory = settled.1 }
+
+-- ---- after others
+
+none_or_some : {A : Type 0} (x : Option A) → (x ≡ None) ⊎ ((y : A) × (x ≡ Some y))
+none_or_some None = inl refl
+none_or_some (Some y) = inr (y, refl)
+
+-- no file stood where none stands
+free_before : (a b : Held) (path : List ℕ) → KeepsAll a b → b.bytes_at path ≡ None → a.bytes_at path ≡ None
+free_before a b path kept free = elim (none_or_some (a.bytes_at path)) [
+  | inl none ↦ none
+  | inr some ↦ absurd (let e : None ≡ Some some.0 = sym free ∙ kept.stays path some.0 some.1 in cc)
+]
+
+-- what was staged stands
+staged_still : (pile : List ℕ) (number : ℕ) (source : StageSource) (listed : Source) (a b c : Held) → KeepsAll b c
+    → IsStaged pile number source listed a b → IsStaged pile number source listed a c
+staged_still pile number source listed a b c kept h = record {
+  path = h.path;
+  place = h.place;
+  free = h.free;
+  copy = h.copy;
+  made = kept.stays h.path h.copy h.made;
+  size = h.size;
+  of = record {
+    bytes = h.of.bytes;
+    stands = kept.stays source.path.now h.of.bytes h.of.stands;
+    front = h.of.front;
+    found = h.of.found;
+  };
+}
+
+staged_since : (pile : List ℕ) (number : ℕ) (source : StageSource) (listed : Source) (a b c : Held) → KeepsAll a b
+    → IsStaged pile number source listed b c → IsStaged pile number source listed a c
+staged_since pile number source listed a b c kept h = record {
+  path = h.path;
+  place = h.place;
+  free = free_before a b h.path kept h.free;
+  copy = h.copy;
+  made = h.made;
+  size = h.size;
+  of = h.of;
+}
+
+-- an element of a list with one more is one of the list, or the last
+last_or_before : {A : Type 0} (list : List A) (last one : A) (at : ℕ) → slice_get (list ++ last ∷ []) at ≡ Some one
+    → (slice_get list at ≡ Some one) ⊎ ((at ≡ length list) × (one ≡ last))
+last_or_before [] last one zero is = inr (refl, cc)
+last_or_before [] last one (suc at) is = absurd (cc)
+last_or_before (first ∷ list) last one zero is = inl is
+last_or_before (first ∷ list) last one (suc at) is = elim (last_or_before list last one at is) [
+  | inl before ↦ inl before
+  | inr here ↦ inr (ap suc here.0, here.1)
+]
+
+same_source : (sources : List StageSource) (at next : ℕ) (one other : StageSource) → slice_get sources at ≡ Some one
+    → slice_get sources next ≡ Some other → at ≡ next → one ≡ other
+same_source sources at next one other is its same =
+    let e : Some one ≡ Some other = sym is ∙ ap (λ (n : ℕ). slice_get sources n) same ∙ its in cc
+
+one_more : (pile : List ℕ) (sources : List StageSource) (list : List Source) (source : StageSource) (listed : Source)
+    (a b c : Held) → slice_get sources (length list) ≡ Some source → CopiesStand pile sources list a b
+    → StagesOne pile (length list + 1) source listed b c → CopiesStand pile sources (list ++ listed ∷ []) a c
+one_more pile sources list source listed a b c next before one =
+    let many : length (list ++ listed ∷ []) ≡ length list + 1 = length_push list listed in
+    record {
+      stays = record { stays = λ path bytes is. one.stays.stays path bytes (before.stays.stays path bytes is) };
+      each = λ at other its is itself. elim (last_or_before list listed its at itself) [
+        | inl there ↦ staged_still pile (at + 1) other its a b c one.stays (before.each at other its is there)
+        | inr here ↦
+            let same : source ≡ other = sym (same_source sources at (length list) other source is next here.0) in
+            subst (λ (s : StageSource). IsStaged pile (at + 1) s its a c) same
+            (subst (λ (l : Source). IsStaged pile (at + 1) source l a c) (sym here.1)
+            (subst (λ (n : ℕ). IsStaged pile (n + 1) source listed a c) (sym here.0)
+            (staged_since pile (length list + 1) source listed a b c before.stays one.staged)))
+      ];
+      others = λ other no.
+          one.others other
+          (λ place. no (record { at = length list; within = omega (arith, many); place = place }))
+          ∙ before.others other
+          (λ h.
+          let within = h.within in
+          no (record { at = h.at; within = omega (arith, many, within); place = h.place }));
+    }
+
+-- the copies with one more
+pub copies_more : (pile : List ℕ) (sources : List StageSource) (list : List Source) (source : StageSource)
+    (listed : Source) (a b c : Option Held) → slice_get sources (length list) ≡ Some source
+    → IfSaid (CopiesStand pile sources list) a b → IfSaid (StagesOne pile (length list + 1) source listed) b c
+    → IfSaid (CopiesStand pile sources (list ++ listed ∷ [])) a c
+copies_more pile sources list source listed None b c next before one =
+    subst (λ (x : Option Held). IfSaid (StagesOne pile (length list + 1) source listed) x c) before one
+copies_more pile sources list source listed (Some a) None c next before one = absurd before
+copies_more pile sources list source listed (Some a) (Some b) None next before one = absurd one
+copies_more pile sources list source listed (Some a) (Some b) (Some c) next before one =
+    one_more pile sources list source listed a b c next before one
+
+-- what stood stays
+pub copies_keep : (pile : List ℕ) (sources : List StageSource) (list : List Source) (a b : Option Held)
+    → IfSaid (CopiesStand pile sources list) a b → Keeps a b
+copies_keep pile sources list None b h = h
+copies_keep pile sources list (Some a) None h = h
+copies_keep pile sources list (Some a) (Some b) h = h.stays
+
+-- the copies stand after what stood has stayed
+pub each_since : (pile : List ℕ) (sources : List StageSource) (list : List Source) (a b c : Option Held)
+    → IfSaid (CopiesStand pile sources list) a b → Keeps b c → IfSaid (EachStaged pile sources list) a c
+each_since pile sources list None b c before kept = subst (λ (x : Option Held). Keeps x c) before kept
+each_since pile sources list (Some a) None c before kept = absurd before
+each_since pile sources list (Some a) (Some b) None before kept = absurd kept
+each_since pile sources list (Some a) (Some b) (Some c) before kept = λ at source listed is its.
+    staged_still pile (at + 1) source listed a b c kept (before.each at source listed is its)
+
+-- ---- as the program keeps the list
+
+pub source_at : (sources : List StageSource) (at : ℕ) (d : StageSource) → at < length sources
+    → slice_get sources at ≡ Some (get_or sources at d)
+source_at [] at d within = absurd (omega (arith, within))
+source_at (first ∷ sources) zero d within = refl
+source_at (first ∷ sources) (suc at) d within = source_at sources at d (omega (arith, within))
+
+pub stand_more : (pile : List ℕ) (sources : List StageSource) (old new : List Staged) (one : Staged) (at : ℕ)
+    (d : StageSource) (a b c : Option Held) → new ≡ old ++ one ∷ [] → length old ≡ at → at < length sources
+    → IfSaid (CopiesStand pile sources (map source_view old)) a b
+    → IfSaid (StagesOne pile (at + 1) (get_or sources at d) (source_view one)) b c
+    → IfSaid (CopiesStand pile sources (map source_view new)) a c
+stand_more pile sources old new one at d a b c is many within before staged =
+    let list = map source_view old in
+    let size : at ≡ length list = sym many ∙ sym (length-map old source_view) in
+    subst (λ (all : List Source). IfSaid (CopiesStand pile sources all) a c)
+    (sym (ap (map source_view) is ∙ map_push source_view old one))
+    (copies_more pile sources list (get_or sources at d) (source_view one) a b c
+    (subst (λ (n : ℕ). slice_get sources n ≡ Some (get_or sources at d)) size (source_at sources at d within)) before
+    (subst (λ (n : ℕ). IfSaid (StagesOne pile (n + 1) (get_or sources at d) (source_view one)) b c) size staged))
+
+pub pushed_more : (old new : List Staged) (one : Staged) (at : ℕ) → new ≡ old ++ one ∷ [] → length old ≡ at
+    → length new ≡ at + 1
+pushed_more old new one at is many =
+    ap (λ (all : List Staged). length all) is ∙ length_push old one ∙ ap (λ (n : ℕ). n + 1) many
+
+all_more : (list : List Source) (one : Source) → AllByRecursion WasRead list → WasRead one
+    → AllByRecursion WasRead (list ++ one ∷ [])
+all_more [] one all last = (last, tt)
+all_more (first ∷ list) one all last = (all.0, all_more list one all.1 last)
+
+pub read_more : (old new : List Staged) (one : Staged) → new ≡ old ++ one ∷ []
+    → AllByRecursion WasRead (map source_view old) → WasRead (source_view one)
+    → AllByRecursion WasRead (map source_view new)
+read_more old new one is before last =
+    subst (AllByRecursion WasRead) (sym (ap (map source_view) is ∙ map_push source_view old one))
+    (all_more (map source_view old) (source_view one) before last)
+
+-- ---- with the list
+
+list_stands : (pile : List ℕ) (sources : List StageSource) (list : List Source) (a b : Held) (path : List ℕ)
+    → IsListPath pile path → b.bytes_at path ≡ None → CopiesStand pile sources list a b
+    → PileStands pile sources list a (published path (stage_text list) b)
+list_stands pile sources list a b path place free before =
+    let text = stage_text list in
+    let kept : KeepsAll b (published path text b) = record {
+      stays = λ other was stood. file_stays path (Some text) b.bytes_at free other was stood;
+    } in
+    record {
+      stays = record { stays = λ other was stood. kept.stays other was (before.stays.stays other was stood) };
+      each = λ at source listed is its.
+          staged_still pile (at + 1) source listed a b (published path text b) kept
+          (before.each at source listed is its);
+      path = path;
+      place = place;
+      free = free_before a b path before.stays free;
+      written = file_here path (Some text) b.bytes_at;
+      others = λ other apart no. file_there path other (Some text) b.bytes_at apart ∙ before.others other no;
+    }
+
+pub pile_stands : (pile : List ℕ) (sources : List StageSource) (list : List Source) (a b c : Option Held)
+    → IfSaid (CopiesStand pile sources list) a b → WritesList pile list b c → IfSaid (PileStands pile sources list) a c
+pile_stands pile sources list None b c before h =
+    h.made ∙ ap (λ (x : Option Held). option_map (published h.path (stage_text list)) x) before
+pile_stands pile sources list (Some a) None c before h = absurd before
+pile_stands pile sources list (Some a) (Some b) c before h =
+    subst (λ (x : Option Held). IfSaid (PileStands pile sources list) (Some a) x) (sym h.made)
+    (list_stands pile sources list a b h.path h.place h.free before)
+
+-- ---- names
+
+pub names_more : (sources : List StageSource) (old new : List Staged) (one : Staged) (at : ℕ) (d : StageSource)
+    → new ≡ old ++ one ∷ [] → at < length sources
+    → map (λ listed. listed.name) (map source_view old) ≡ map (λ source. source.name.now) (take at sources)
+    → one.name.items ≡ (get_or sources at d).name.now
+    → map (λ listed. listed.name) (map source_view new) ≡ map (λ source. source.name.now) (take (at + 1) sources)
+names_more sources old new one at d is within before named =
+    let name_of : Source → List ℕ = λ (listed : Source). listed.name in
+    let named_so : StageSource → List ℕ = λ (source : StageSource). source.name.now in
+    ap (λ (all : List Staged). map name_of (map source_view all)) is
+    ∙ ap (map name_of) (map_push source_view old one)
+    ∙ map_push name_of (map source_view old) (source_view one)
+    ∙ ap (λ (front : List (List ℕ)). front ++ one.name.items ∷ []) before
+    ∙ ap (λ (last : List ℕ). map named_so (take at sources) ++ last ∷ []) named
+    ∙ sym (map_push named_so (take at sources) (get_or sources at d))
+    ∙ ap (map named_so) (sym (take_more sources at d within))

@@ -1,0 +1,36 @@
+-- All bytes that were read ahead went to the copy, or a front of them.
+use Rattle.dd_pile.proofs.Answered.{copy_known, found_settled}
+use Rattle.dd_pile.proofs.Fronts.{ahead_front}
+use Rattle.dd_pile.proofs.Kept.{keeps_grown}
+use Rattle.dd_pile.proofs.copies.send_copy.Goals as goal
+
+pub returns-in-Ok-clause-written : goal.returns-in-Ok-clause-written
+returns-in-Ok-clause-written g c =
+    let start = c.in_ok-start_copy.ensures.started cc in
+    let sent = c.in-Ok.ensures in
+    let went = sent.1.1.1 in
+    let bytes = c.args.ahead.now.bytes in
+    record {
+      bytes = bytes;
+      start = g.F.Files.held c.start_copy.new.files;
+      starts = start;
+      written = g.met.F.Files.written_grows _ _ bytes went.stays went.holds;
+      size = sent.1.0;
+      settled = found_settled c.in-Ok.copy.found bytes sent.1.1.0;
+      of = copy_known c.args.turn.now.source.path.now c.args.ahead.now (g.F.Files.held c.args.files.now)
+          c.in-Ok.copy.found c.requires.known sent.0 sent.1.1.0;
+    }
+
+pub returns-in-Ok-clause-stays : goal.returns-in-Ok-clause-stays
+returns-in-Ok-clause-stays g c =
+    let start = c.in_ok-start_copy.ensures.started cc in
+    let went = c.in-Ok.ensures.1.1.1 in
+    keeps_grown start.path c.args.ahead.now.bytes _ _ _ start.free start.started
+    (g.met.F.Files.written_grows _ _ c.args.ahead.now.bytes went.stays went.holds)
+
+pub returns-in-Err-clause-stays : goal.returns-in-Err-clause-stays
+returns-in-Err-clause-stays g c =
+    let start = c.in_ok-start_copy.ensures.started cc in
+    let front = ahead_front g.F.Write _ _ c.in-Err.fault c.args.ahead.now c.in-Err.ensures in
+    keeps_grown start.path front.bytes _ _ _ start.free start.started
+    (g.met.F.Files.written_grows _ _ front.bytes front.stays front.holds)

@@ -1,0 +1,42 @@
+-- All that the reader gave went to the copy, or a front of it.
+use Rattle.dd_pile.proofs.Answered.{copy_given, size_given}
+use Rattle.dd_pile.proofs.Fronts.{source_front}
+use Rattle.dd_pile.proofs.Kept.{keeps_grown}
+use Rattle.dd_pile.proofs.copies.stream_copy.Goals as goal
+
+pub returns-in-Ok-copy_source-clause-written : goal.returns-in-Ok-copy_source-clause-written
+returns-in-Ok-copy_source-clause-written g c =
+    let start = c.in_ok-start_copy.ensures.started cc in
+    let h = c.in-Ok-copy_source.ensures in
+    let settled = h.answered.1.0 in
+    let read = h.answered.1.1.0 in
+    let went = h.answered.1.1.1 in
+    record {
+      bytes = h.given;
+      start = g.F.Files.held c.start_copy.new.files;
+      starts = rw c.in-Ok.ensures.kept at start;
+      written = g.met.F.Files.written_grows _ _ h.given went.stays went.holds;
+      size = size_given h.given _ _ _ c.in-Ok-copy_source.copy.size c.in-Ok-copy_source.copy.found read settled
+          h.answered.0;
+      settled = settled;
+      of = copy_given c.args.turn.now.source.path.now (g.F.Files.held c.args.files.now) _ _ h.given _ _
+          c.in-Ok-copy_source.copy.found c.in-Ok.ensures.opened.left h.known read settled;
+    }
+
+pub returns-in-Ok-copy_source-clause-stays : goal.returns-in-Ok-copy_source-clause-stays
+returns-in-Ok-copy_source-clause-stays g c =
+    let start = c.in_ok-start_copy.ensures.started cc in
+    let h = c.in-Ok-copy_source.ensures in
+    let went = h.answered.1.1.1 in
+    keeps_grown start.path h.given _ _ _ (rw c.in-Ok.ensures.kept at start.free)
+    (rw c.in-Ok.ensures.kept at start.started)
+    (g.met.F.Files.written_grows _ _ h.given went.stays went.holds)
+
+pub returns-clause-stays : goal.returns-clause-stays
+returns-clause-stays g c =
+    let start = c.in_ok-start_copy.ensures.started cc in
+    let h = c.in-Err.ensures in
+    let front = source_front g.F.Write _ _ c.in-Err.fault _ h.given _ _ _ h.answered in
+    keeps_grown start.path front.bytes _ _ _ (rw c.in-Ok.ensures.kept at start.free)
+    (rw c.in-Ok.ensures.kept at start.started)
+    (g.met.F.Files.written_grows _ _ front.bytes front.stays front.holds)

@@ -1,0 +1,7 @@
+pub mod Copies
+pub mod Lists
+pub mod Paths
+pub mod Piles
+pub mod ReadingAhead
+pub mod Refusals
+pub mod Sums

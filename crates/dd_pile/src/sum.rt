@@ -1,0 +1,34 @@
+ghost use Rattle.std.specs.Prelude.{map};
+ghost use Rattle.dd_staged.specs.Sources.{source_view};
+ghost use Rattle.dd_pile.specs.Sums.{AddsUp};
+
+use dd_staged::Staged;
+
+/// How many sources were staged.
+#[derive(Clone, Copy, Debug, PartialEq, Eq)]
+pub struct StageSum {
+    pub sources: usize,
+    /// How many of them have no version.
+    pub skipped: usize,
+    /// The bytes of the copies of all others, up to `u64::MAX`.
+    pub bytes: u64,
+}
+
+impl StageSum {
+    pub(crate) fn of(list: &[Staged]) -> StageSum
+        ensures { AddsUp (map source_view list.now) result }
+    {
+        let mut sum = StageSum {
+            sources: list.len(),
+            skipped: 0,
+            bytes: 0,
+        };
+        for staged in list {
+            match staged.found {
+                Ok(_) => sum.bytes = sum.bytes.saturating_add(staged.size),
+                Err(_) => sum.skipped += 1,
+            }
+        }
+        sum
+    }
+}
