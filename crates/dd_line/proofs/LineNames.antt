@@ -7,7 +7,8 @@ use Rattle.dd_line.specs.Line.{dicomdir_app}
 use Rattle.dd_line.specs.Requests.{NamesCommand}
 use Rattle.dd_line.proofs.LineEach.{Each, first_none, second_none}
 use Rattle.dd_line.proofs.LineHelp.{NotHelp, level_needs, walk_not_help}
-use Rattle.dd_line.proofs.LineCommands.{check_serves, index_serves, list_serves, merge_serves, withdraw_serves}
+use Rattle.dd_line.proofs.LineCommands.{check_serves, index_serves, list_serves, merge_serves, publish_serves}
+use Rattle.dd_line.proofs.LineCommands.{stage_serves, withdraw_serves}
 use Rattle.dd_line.proofs.LineServes.{Serves, entered_serves, help_serves}
 
 -- words with no fault name a command
@@ -28,7 +29,10 @@ names_command words none =
         merge_serves,
         (
           withdraw_serves,
-          (check_serves, (list_serves, (help_serves _ refl refl, tt))),
+          (
+            stage_serves,
+            (publish_serves, (check_serves, (list_serves, (help_serves _ refl refl, tt)))),
+          ),
         ),
       ),
     ) in

@@ -15,19 +15,23 @@ use Rattle.dd_line.specs.Requests.{IsRequested, IsServed, NamesCommand, Requests
 use Rattle.dd_line.specs.declared.line.Asked.{Asked}
 use Rattle.dd_line.specs.declared.request.Request.{Request}
 use Rattle.dd_line.specs.declared.line.Verb.{Verb}
-use Rattle.dd_line.specs.declared.line.Verb.TheVariants.{Index, Merge, Withdraw, Check, List as ListSet}
+use Rattle.dd_line.specs.declared.line.Verb.TheVariants.{Index, Merge, Withdraw, Stage, Publish, Check, List as ListSet}
 
 -- the command that has a name
 abbrev verb_of : Text → Verb
 verb_of name = if bytes_eq name (codes "index") then Index
     else (if bytes_eq name (codes "merge") then Merge
     else (if bytes_eq name (codes "withdraw") then Withdraw
-    else (if bytes_eq name (codes "check") then Check else ListSet)))
+    else (if bytes_eq name (codes "stage") then Stage
+    else (if bytes_eq name (codes "publish") then Publish
+    else (if bytes_eq name (codes "check") then Check else ListSet)))))
 
 verb_of-name : (verb : Verb) → verb_of (verb_name verb) ≡ verb
 verb_of-name Index = refl
 verb_of-name Merge = refl
 verb_of-name Withdraw = refl
+verb_of-name Stage = refl
+verb_of-name Publish = refl
 verb_of-name Check = refl
 verb_of-name ListSet = refl
 
@@ -85,6 +89,8 @@ pub reader : (verb : Verb) → OnlyReads verb ↔ IsReader (verb_name verb)
 reader Index = (λ reads. absurd reads, no_reader (codes "index") refl refl)
 reader Merge = (λ reads. absurd reads, no_reader (codes "merge") refl refl)
 reader Withdraw = (λ reads. absurd reads, no_reader (codes "withdraw") refl refl)
+reader Stage = (λ reads. absurd reads, no_reader (codes "stage") refl refl)
+reader Publish = (λ reads. absurd reads, no_reader (codes "publish") refl refl)
 reader Check = (λ _. inl refl, λ _. tt)
 reader ListSet = (λ _. inr refl, λ _. tt)
 

@@ -11,6 +11,7 @@ use Rattle.dd_line.proofs.LineVerbs.{IsReader, reader}
 use Rattle.dd_line.specs.declared.line.Verb.TheVariants.{Check}
 use Rattle.dd_line.specs.declared.request.Request.{Request}
 use Rattle.dd_line.specs.declared.request.Request.TheVariants.{Index as ToIndex, Merge as ToMerge, Withdraw as ToWithdraw}
+use Rattle.dd_line.specs.declared.request.Request.TheVariants.{Stage as ToStage, Publish as ToPublish}
 use Rattle.dd_line.specs.declared.request.Request.TheVariants.{Check as ToCheck, List as ToList}
 
 no_flag : (name : Text) (given : List Row) → IsAbsent name given → false ≡ is_given name given
@@ -27,11 +28,12 @@ pub says_parts : (r : Request) (command : Text) (given : List Row) → Requests 
 says_parts (ToIndex x) command given h =
     let out = h.values.new_set.out in
     let set = no_values (codes "set") given (h.others (codes "set") refl) in
+    let pile = no_values (codes "pile") given (h.others (codes "pile") refl) in
     record {
       verb = h.verb;
       id = h.values.new_set.id;
       uid = h.values.new_set.uid;
-      paths = rw (out, set, append-nil) (ap (λ (xs : List Text). string_bytes x.new_set.out ∷ xs)
+      paths = rw (out, set, pile, append-nil) (ap (λ (xs : List Text). string_bytes x.new_set.out ∷ xs)
           h.values.sources.words);
       instances = sym (no_values (codes "instance") given (h.others (codes "instance") refl));
       dry_run = h.values.new_set.dry_run;
@@ -42,11 +44,13 @@ says_parts (ToIndex x) command given h =
 says_parts (ToMerge x) command given h =
     let out = h.values.new_set.out in
     let source = no_values (codes "source") given (h.others (codes "source") refl) in
+    let pile = no_values (codes "pile") given (h.others (codes "pile") refl) in
     record {
       verb = h.verb;
       id = h.values.new_set.id;
       uid = h.values.new_set.uid;
-      paths = rw (out, source) (ap (λ (xs : List Text). string_bytes x.new_set.out ∷ xs) h.values.sets.words);
+      paths = rw (out, source, pile, append-nil) (ap (λ (xs : List Text). string_bytes x.new_set.out ∷ xs)
+          h.values.sets.words);
       instances = sym (no_values (codes "instance") given (h.others (codes "instance") refl));
       dry_run = h.values.new_set.dry_run;
       link = h.values.link;
@@ -56,27 +60,61 @@ says_parts (ToMerge x) command given h =
 says_parts (ToWithdraw x) command given h =
     let out = h.values.new_set.out in
     let source = no_values (codes "source") given (h.others (codes "source") refl) in
+    let pile = no_values (codes "pile") given (h.others (codes "pile") refl) in
     let set = h.values.set in
     record {
       verb = h.verb;
       id = h.values.new_set.id;
       uid = h.values.new_set.uid;
-      paths = rw (out, source, set) refl;
+      paths = rw (out, source, pile, set) refl;
       instances = h.values.instances;
       dry_run = h.values.new_set.dry_run;
       link = no_flag (codes "link") given (h.others (codes "link") refl);
       keep_going = no_flag (codes "keep-going") given (h.others (codes "keep-going") refl);
       json = h.values.new_set.json;
     }
+says_parts (ToStage x) command given h =
+    let out = h.values.pile in
+    let set = no_values (codes "set") given (h.others (codes "set") refl) in
+    let pile = no_values (codes "pile") given (h.others (codes "pile") refl) in
+    record {
+      verb = h.verb;
+      id = no_value (codes "id") given (h.others (codes "id") refl);
+      uid = no_value (codes "uid") given (h.others (codes "uid") refl);
+      paths = rw (out, set, pile, append-nil) (ap (λ (xs : List Text). string_bytes x.pile ∷ xs)
+          h.values.sources.words);
+      instances = sym (no_values (codes "instance") given (h.others (codes "instance") refl));
+      dry_run = no_flag (codes "dry-run") given (h.others (codes "dry-run") refl);
+      link = no_flag (codes "link") given (h.others (codes "link") refl);
+      keep_going = no_flag (codes "keep-going") given (h.others (codes "keep-going") refl);
+      json = h.values.json;
+    }
+says_parts (ToPublish x) command given h =
+    let out = h.values.new_set.out in
+    let source = no_values (codes "source") given (h.others (codes "source") refl) in
+    let set = no_values (codes "set") given (h.others (codes "set") refl) in
+    record {
+      verb = h.verb;
+      id = h.values.new_set.id;
+      uid = h.values.new_set.uid;
+      paths = rw (out, source, set) (ap (λ (xs : List Text). string_bytes x.new_set.out ∷ xs)
+          h.values.piles.words);
+      instances = sym (no_values (codes "instance") given (h.others (codes "instance") refl));
+      dry_run = h.values.new_set.dry_run;
+      link = h.values.link;
+      keep_going = no_flag (codes "keep-going") given (h.others (codes "keep-going") refl);
+      json = h.values.new_set.json;
+    }
 says_parts (ToCheck x) command given h =
     let out = no_values (codes "out") given (h.others (codes "out") refl) in
     let source = no_values (codes "source") given (h.others (codes "source") refl) in
+    let pile = no_values (codes "pile") given (h.others (codes "pile") refl) in
     let set = h.values.set in
     record {
       verb = h.verb;
       id = no_value (codes "id") given (h.others (codes "id") refl);
       uid = no_value (codes "uid") given (h.others (codes "uid") refl);
-      paths = rw (out, source, set) refl;
+      paths = rw (out, source, pile, set) refl;
       instances = sym (no_values (codes "instance") given (h.others (codes "instance") refl));
       dry_run = no_flag (codes "dry-run") given (h.others (codes "dry-run") refl);
       link = no_flag (codes "link") given (h.others (codes "link") refl);
@@ -86,12 +124,13 @@ says_parts (ToCheck x) command given h =
 says_parts (ToList x) command given h =
     let out = no_values (codes "out") given (h.others (codes "out") refl) in
     let source = no_values (codes "source") given (h.others (codes "source") refl) in
+    let pile = no_values (codes "pile") given (h.others (codes "pile") refl) in
     let set = h.values.set in
     record {
       verb = h.verb;
       id = no_value (codes "id") given (h.others (codes "id") refl);
       uid = no_value (codes "uid") given (h.others (codes "uid") refl);
-      paths = rw (out, source, set) refl;
+      paths = rw (out, source, pile, set) refl;
       instances = sym (no_values (codes "instance") given (h.others (codes "instance") refl));
       dry_run = no_flag (codes "dry-run") given (h.others (codes "dry-run") refl);
       link = no_flag (codes "link") given (h.others (codes "link") refl);

@@ -3,11 +3,13 @@
 --   dicomdir index [OPTIONS] [--files0-from FILE] [-k|--keep-going] OUT SRC...
 --   dicomdir merge [OPTIONS] [--files0-from FILE] [--link] OUT SET...
 --   dicomdir withdraw [OPTIONS] OUT SET UID...
+--   dicomdir stage [--files0-from FILE] [--from FOLDER] [--quiet] [--verbose] [--json] PILE SRC...
+--   dicomdir publish [OPTIONS] [--files0-from FILE] [--from FOLDER] [--link] OUT PILE...
 --   dicomdir check [--keys] [--strict] [--quiet] [--verbose] [--json] SET
 --   dicomdir list [--long] [--verbose] [--json] SET
 --
 -- OPTIONS are `[--id ID] [--uid UID] [--max-bytes N] [--strict] [--dry-run] [--quiet] [--verbose] [--json]`. Where
--- `--files0-from` is given, SRC or SET may be left out.
+-- `--files0-from` is given, SRC, SET or PILE after it may be left out.
 use Rattle.std.specs.Prelude.{◌≡◌, ◌≢◌, ◌++◌, [], ℕ, List, Option, Some, None, map, string_bytes, String}
 use Rattle.std.specs.Prelude.{Bool, Contains, codes, length, option_map, ◌≤◌, true, false, unwrap_or}
 use Rattle.clap.specs.Takes.{is_given}
@@ -30,7 +32,7 @@ use Rattle.dd_line.specs.declared.line.Asked.{Asked}
 use Rattle.dd_line.specs.declared.line.LineFault.{LineFault}
 use Rattle.dd_line.specs.declared.line.LineFault.TheVariants.{Refused, Memory}
 use Rattle.dd_line.specs.declared.line.Verb.{Verb}
-use Rattle.dd_line.specs.declared.line.Verb.TheVariants.{Index, Merge, Withdraw, Check, List as ListSet}
+use Rattle.dd_line.specs.declared.line.Verb.TheVariants.{Index, Merge, Withdraw, Stage, Publish, Check, List as ListSet}
 
 -- ---- the arguments and commands
 
@@ -46,6 +48,9 @@ max_bytes_name = codes "max-bytes"
 
 abbrev pub files0_from_name : Text
 files0_from_name = codes "files0-from"
+
+abbrev pub from_name : Text
+from_name = codes "from"
 
 -- the names of the flags
 abbrev pub keys_name : Text
@@ -75,7 +80,7 @@ keep_going_name = codes "keep-going"
 abbrev pub json_name : Text
 json_name = codes "json"
 
--- the names of the paths
+-- the names of the paths, the first of which is the folder that a command writes to
 abbrev pub out_name : Text
 out_name = codes "out"
 
@@ -84,6 +89,9 @@ source_name = codes "source"
 
 abbrev pub set_name : Text
 set_name = codes "set"
+
+abbrev pub pile_name : Text
+pile_name = codes "pile"
 
 -- the name of the images, each by its SOP Instance UID
 abbrev pub instance_name : Text
@@ -94,6 +102,8 @@ abbrev pub verb_name : Verb → Text
 verb_name Index = codes "index"
 verb_name Merge = codes "merge"
 verb_name Withdraw = codes "withdraw"
+verb_name Stage = codes "stage"
+verb_name Publish = codes "publish"
 verb_name Check = codes "check"
 verb_name ListSet = codes "list"
 
@@ -153,17 +163,36 @@ index_app = with_rule (with_rule (with_rule (writing_app (verb_name Index))
     (flag keep_going_name))
     (any_paths source_name)
 
--- `merge`, with those options, and `[--files0-from FILE] [--link] OUT [SET]...`
+-- one that may link images: those of a command that writes, and `[--files0-from FILE] [--link]`
+abbrev pub linking_app : Text → App
+linking_app name = with_rule (with_rule (writing_app name) (text_option files0_from_name)) (flag link_name)
+
+-- `merge`, with those options, and `OUT [SET]...`
 abbrev pub merge_app : App
-merge_app = with_rule (with_rule (with_rule (writing_app (verb_name Merge))
-    (text_option files0_from_name))
-    (flag link_name))
-    (any_paths set_name)
+merge_app = with_rule (linking_app (verb_name Merge)) (any_paths set_name)
 
 -- `withdraw`, with the options of a command that writes, and `OUT SET UID...`
 abbrev pub withdraw_app : App
 withdraw_app =
     with_rule (with_rule (writing_app (verb_name Withdraw)) (one_path set_name)) (some_paths instance_name)
+
+-- a command that shows what it does: `[--quiet] [--verbose] [--json]`
+abbrev pub showing_app : Text → App
+showing_app name =
+    with_rule (with_rule (with_rule (new_app name) (flag quiet_name)) (flag verbose_name)) (flag json_name)
+
+-- `stage`, with those flags, and `[--files0-from FILE] [--from FOLDER]`
+abbrev pub staging_app : App
+staging_app =
+    with_rule (with_rule (showing_app (verb_name Stage)) (text_option files0_from_name)) (text_option from_name)
+
+-- all of it: those, and `PILE [SRC]...`, where PILE is the folder that it writes to
+abbrev pub stage_app : App
+stage_app = with_rule (with_rule staging_app (one_path out_name)) (any_paths source_name)
+
+-- `publish`, with the options of a command that may link images, and `[--from FOLDER] OUT [PILE]...`
+abbrev pub publish_app : App
+publish_app = with_rule (with_rule (linking_app (verb_name Publish)) (text_option from_name)) (any_paths pile_name)
 
 -- a command that reads one file-set: its name, and then SET
 abbrev pub reading_app : Text → App
@@ -192,13 +221,19 @@ with_version a = record a { top = record a.top { has_version = true } }
 abbrev pub with_command_required : App → App
 with_command_required a = record a { top = record a.top { subcommand_required = true } }
 
+-- the program without its commands
+abbrev pub bare_app : App
+bare_app = with_command_required (with_version (new_app (codes "dicomdir")))
+
 -- the program with its commands
 abbrev pub dicomdir_app : App
-dicomdir_app = with_subcommand (with_subcommand (with_subcommand (with_subcommand (with_subcommand
-    (with_command_required (with_version (new_app (codes "dicomdir"))))
+dicomdir_app = with_subcommand (with_subcommand (with_subcommand (with_subcommand (with_subcommand (with_subcommand
+    (with_subcommand bare_app
     index_app.top)
     merge_app.top)
     withdraw_app.top)
+    stage_app.top)
+    publish_app.top)
     check_app.top)
     list_app.top
 
@@ -206,19 +241,23 @@ dicomdir_app = with_subcommand (with_subcommand (with_subcommand (with_subcomman
 
 -- the commands that make a file-set
 abbrev pub makers : List Verb
-makers = Index ∷ Merge ∷ Withdraw ∷ []
+makers = Index ∷ Merge ∷ Withdraw ∷ Publish ∷ []
+
+-- the commands that take sources, which are files, file-sets or piles
+abbrev pub gatherers : List Verb
+gatherers = Index ∷ Merge ∷ Stage ∷ Publish ∷ []
 
 -- the flags, each with the commands that have it
 abbrev pub flags : List (Text × List Verb)
 flags = (keys_name, Check ∷ [])
     ∷ (strict_name, Check ∷ makers)
     ∷ (dry_run_name, makers)
-    ∷ (quiet_name, Check ∷ makers)
-    ∷ (verbose_name, ListSet ∷ Check ∷ makers)
+    ∷ (quiet_name, Check ∷ Stage ∷ makers)
+    ∷ (verbose_name, ListSet ∷ Check ∷ Stage ∷ makers)
     ∷ (long_name, ListSet ∷ [])
-    ∷ (link_name, Merge ∷ [])
+    ∷ (link_name, Merge ∷ Publish ∷ [])
     ∷ (keep_going_name, Index ∷ [])
-    ∷ (json_name, ListSet ∷ Check ∷ makers)
+    ∷ (json_name, ListSet ∷ Check ∷ Stage ∷ makers)
     ∷ []
 
 -- the options with a value and the paths, likewise
@@ -226,10 +265,12 @@ abbrev pub options : List (Text × List Verb)
 options = (id_name, makers)
     ∷ (uid_name, makers)
     ∷ (max_bytes_name, makers)
-    ∷ (files0_from_name, Index ∷ Merge ∷ [])
-    ∷ (out_name, makers)
-    ∷ (source_name, Index ∷ [])
+    ∷ (files0_from_name, gatherers)
+    ∷ (from_name, Stage ∷ Publish ∷ [])
+    ∷ (out_name, Stage ∷ makers)
+    ∷ (source_name, Index ∷ Stage ∷ [])
     ∷ (set_name, Merge ∷ Withdraw ∷ Check ∷ ListSet ∷ [])
+    ∷ (pile_name, Publish ∷ [])
     ∷ (instance_name, Withdraw ∷ [])
     ∷ []
 
@@ -267,13 +308,15 @@ given_for name given = unwrap_or (all_of name given) []
 -- the paths that a command was given: the folder that it writes to, and then the paths that it reads
 abbrev pub given_paths : List Row → List Text
 given_paths given = given_for out_name given
-    ++ (given_for source_name given ++ given_for set_name given)
+    ++ (given_for source_name given ++ (given_for set_name given ++ given_for pile_name given))
 
 -- the least number of paths that a command of this kind is given
 abbrev pub least_paths : Verb → ℕ
 least_paths Index = 1
 least_paths Merge = 1
 least_paths Withdraw = 2
+least_paths Stage = 1
+least_paths Publish = 1
 least_paths Check = 1
 least_paths ListSet = 1
 
@@ -282,14 +325,18 @@ abbrev pub OnlyReads : Verb → Type 0
 OnlyReads Index = ⊥
 OnlyReads Merge = ⊥
 OnlyReads Withdraw = ⊥
+OnlyReads Stage = ⊥
+OnlyReads Publish = ⊥
 OnlyReads Check = Unit {0}
 OnlyReads ListSet = Unit {0}
 
--- the command makes a file-set of sources, which are files or file-sets
+-- the command makes something of sources, which are files, file-sets or piles
 abbrev pub TakesSources : Verb → Type 0
 TakesSources Index = Unit {0}
 TakesSources Merge = Unit {0}
 TakesSources Withdraw = ⊥
+TakesSources Stage = Unit {0}
+TakesSources Publish = Unit {0}
 TakesSources Check = ⊥
 TakesSources ListSet = ⊥
 
@@ -321,6 +368,7 @@ pub record Asks (a : Asked) (command : Text) (given : List Row) : Type 0 where
   pub keep_going : a.keep_going ≡ is_given keep_going_name given
   pub json : a.json ≡ is_given json_name given
   pub files0_from : option_map string_bytes a.files0_from ≡ first_of files0_from_name given
+  pub from : option_map string_bytes a.from ≡ first_of from_name given
 
 -- the line gives the path of one file-set, no ID and no UID, and has the greatest limit
 pub record AsksForOneSet (a : Asked) : Type 0 where
@@ -335,20 +383,30 @@ pub record AsksToWithdraw (a : Asked) : Type 0 where
   pub paths : length a.paths.items ≡ 2
   pub uids : 1 ≤ length a.uids.items
 
+-- the line gives what a pile is made of, and nothing that only a file-set has
+pub record AsksToStage (a : Asked) : Type 0 where
+  pub id : a.id ≡ None
+  pub uid : a.uid ≡ None
+  pub max_bytes : a.max_bytes ≡ most_bytes
+  pub strict : a.strict ≡ false
+  pub dry_run : a.dry_run ≡ false
+
 -- the line has the paths that its command needs, and nothing that its command lacks
 pub record FitsCommand (a : Asked) : Type 0 where
   pub paths : least_paths a.verb ≤ length a.paths.items
   pub set : OnlyReads a.verb → AsksForOneSet a
   pub withdraw : a.verb ≡ Withdraw → AsksToWithdraw a
+  pub stage : a.verb ≡ Stage → AsksToStage a
   pub uids : a.verb ≢ Withdraw → a.uids.items ≡ []
   pub keys : a.verb ≢ Check → a.keys ≡ false
   pub strict : a.verb ≡ ListSet → a.strict ≡ false
   pub dry_run : OnlyReads a.verb → a.dry_run ≡ false
   pub quiet : a.verb ≡ ListSet → a.quiet ≡ false
   pub long : a.verb ≢ ListSet → a.long ≡ false
-  pub link : a.verb ≢ Merge → a.link ≡ false
+  pub link : a.verb ≢ Merge → a.verb ≢ Publish → a.link ≡ false
   pub keep_going : a.verb ≢ Index → a.keep_going ≡ false
   pub files0_from : ¬ TakesSources a.verb → a.files0_from ≡ None
+  pub from : a.verb ≢ Stage → a.verb ≢ Publish → a.from ≡ None
   pub sources : TakesSources a.verb → a.files0_from ≡ None → 2 ≤ length a.paths.items
 
 -- the command and the values are those of the command that the words name
@@ -366,11 +424,16 @@ abbrev pub IsReading : Option (Text × List Row) → Type 0
 IsReading None = ⊥
 IsReading (Some (command, given)) = (command ≡ verb_name Check) ⊎ (command ≡ verb_name ListSet)
 
--- the command that they name is `index` or `merge`, and they give it no source, and no file of names
+-- a command of this name takes sources
+abbrev pub IsGatherer : Text → Type 0
+IsGatherer command = (command ≡ verb_name Index) ⊎ ((command ≡ verb_name Merge)
+    ⊎ ((command ≡ verb_name Stage) ⊎ (command ≡ verb_name Publish)))
+
+-- the command that they name takes sources, and they give it none, and no file of names
 abbrev pub LacksSources : Option (Text × List Row) → Type 0
 LacksSources None = ⊥
-LacksSources (Some (command, given)) = ((command ≡ verb_name Index) ⊎ (command ≡ verb_name Merge))
-    × (given_for source_name given ≡ []) × (given_for set_name given ≡ [])
+LacksSources (Some (command, given)) = IsGatherer command
+    × (given_for source_name given ≡ []) × (given_for set_name given ≡ []) × (given_for pile_name given ≡ [])
     × (first_of files0_from_name given ≡ None)
 
 -- the words give the option of this name this value

@@ -14,16 +14,19 @@ use Rattle.dd_line.specs.Line.{IsLimit, IsNoLimit, flag_names, given_for, given_
 use Rattle.dd_line.specs.Line.{verb_name, words_of}
 use Rattle.dd_line.specs.declared.line.Asked.{Asked}
 use Rattle.dd_line.specs.declared.line.Verb.{Verb}
-use Rattle.dd_line.specs.declared.line.Verb.TheVariants.{Index, Merge, Withdraw, Check, List as ListSet}
+use Rattle.dd_line.specs.declared.line.Verb.TheVariants.{Index, Merge, Withdraw, Stage, Publish, Check, List as ListSet}
 use Rattle.dd_line.specs.declared.request.CheckRequest.{CheckRequest}
 use Rattle.dd_line.specs.declared.request.IndexRequest.{IndexRequest}
 use Rattle.dd_line.specs.declared.request.ListRequest.{ListRequest}
 use Rattle.dd_line.specs.declared.request.MergeRequest.{MergeRequest}
 use Rattle.dd_line.specs.declared.request.NewSet.{NewSet}
+use Rattle.dd_line.specs.declared.request.PublishRequest.{PublishRequest}
 use Rattle.dd_line.specs.declared.request.Request.{Request}
 use Rattle.dd_line.specs.declared.request.Request.TheVariants.{Index as ToIndex, Merge as ToMerge, Withdraw as ToWithdraw}
+use Rattle.dd_line.specs.declared.request.Request.TheVariants.{Stage as ToStage, Publish as ToPublish}
 use Rattle.dd_line.specs.declared.request.Request.TheVariants.{Check as ToCheck, List as ToList}
 use Rattle.dd_line.specs.declared.request.Sources.{Sources}
+use Rattle.dd_line.specs.declared.request.StageRequest.{StageRequest}
 use Rattle.dd_line.specs.declared.request.WithdrawRequest.{WithdrawRequest}
 
 -- ---- what a command is given
@@ -65,6 +68,8 @@ abbrev pub GivesPaths : Verb → List Row → Type 0
 GivesPaths Index given = HasOne line.out_name given
 GivesPaths Merge given = HasOne line.out_name given
 GivesPaths Withdraw given = GivesInstances given
+GivesPaths Stage given = HasOne line.out_name given
+GivesPaths Publish given = HasOne line.out_name given
 GivesPaths Check given = HasOne line.set_name given
 GivesPaths ListSet given = HasOne line.set_name given
 
@@ -126,6 +131,20 @@ pub record WithdrawsAsGiven (x : WithdrawRequest) (given : List Row) : Type 0 wh
   pub set : IsOnly line.set_name given (string_bytes x.set)
   pub instances : words_of x.instances.items ≡ given_for line.instance_name given
 
+pub record StagesAsGiven (x : StageRequest) (given : List Row) : Type 0 where
+  pub pile : IsOnly line.out_name given (string_bytes x.pile)
+  pub sources : HasSources line.source_name given x.sources
+  pub from : option_map string_bytes x.from ≡ first_of line.from_name given
+  pub quiet : x.quiet ≡ is_given line.quiet_name given
+  pub verbose : x.verbose ≡ is_given line.verbose_name given
+  pub json : x.json ≡ is_given line.json_name given
+
+pub record PublishesAsGiven (x : PublishRequest) (given : List Row) : Type 0 where
+  pub new_set : MakesAsGiven x.new_set given
+  pub piles : HasSources line.pile_name given x.piles
+  pub from : option_map string_bytes x.from ≡ first_of line.from_name given
+  pub link : x.link ≡ is_given line.link_name given
+
 pub record ChecksAsGiven (x : CheckRequest) (given : List Row) : Type 0 where
   pub set : IsOnly line.set_name given (string_bytes x.set)
   pub keys : x.keys ≡ is_given line.keys_name given
@@ -145,6 +164,8 @@ abbrev pub verb_of : Request → Verb
 verb_of (ToIndex x) = Index
 verb_of (ToMerge x) = Merge
 verb_of (ToWithdraw x) = Withdraw
+verb_of (ToStage x) = Stage
+verb_of (ToPublish x) = Publish
 verb_of (ToCheck x) = Check
 verb_of (ToList x) = ListSet
 
@@ -153,6 +174,8 @@ abbrev pub IsAsGiven : Request → List Row → Type 0
 IsAsGiven (ToIndex x) given = IndexesAsGiven x given
 IsAsGiven (ToMerge x) given = MergesAsGiven x given
 IsAsGiven (ToWithdraw x) given = WithdrawsAsGiven x given
+IsAsGiven (ToStage x) given = StagesAsGiven x given
+IsAsGiven (ToPublish x) given = PublishesAsGiven x given
 IsAsGiven (ToCheck x) given = ChecksAsGiven x given
 IsAsGiven (ToList x) given = ListsAsGiven x given
 
@@ -194,6 +217,7 @@ pub record AsksToRead (set : Text) (a : Asked) : Type 0 where
   pub link : a.link ≡ false
   pub keep_going : a.keep_going ≡ false
   pub files0_from : a.files0_from ≡ None
+  pub from : a.from ≡ None
 
 -- ---- the parts of a request
 
@@ -202,14 +226,28 @@ abbrev pub new_set_of : Request → Option NewSet
 new_set_of (ToIndex x) = Some x.new_set
 new_set_of (ToMerge x) = Some x.new_set
 new_set_of (ToWithdraw x) = Some x.new_set
+new_set_of (ToStage x) = None
+new_set_of (ToPublish x) = Some x.new_set
 new_set_of (ToCheck x) = None
 new_set_of (ToList x) = None
+
+-- the folder that it writes to, if it writes
+abbrev pub written_of : Request → Option (String Global)
+written_of (ToIndex x) = Some x.new_set.out
+written_of (ToMerge x) = Some x.new_set.out
+written_of (ToWithdraw x) = Some x.new_set.out
+written_of (ToStage x) = Some x.pile
+written_of (ToPublish x) = Some x.new_set.out
+written_of (ToCheck x) = None
+written_of (ToList x) = None
 
 -- the paths of the line that it reads
 abbrev pub read_of : Request → List (String Global)
 read_of (ToIndex x) = x.sources.words.items
 read_of (ToMerge x) = x.sets.words.items
 read_of (ToWithdraw x) = x.set ∷ []
+read_of (ToStage x) = x.sources.words.items
+read_of (ToPublish x) = x.piles.words.items
 read_of (ToCheck x) = x.set ∷ []
 read_of (ToList x) = x.set ∷ []
 
@@ -218,6 +256,8 @@ abbrev pub instances_of : Request → List (String Global)
 instances_of (ToIndex x) = []
 instances_of (ToMerge x) = []
 instances_of (ToWithdraw x) = x.instances.items
+instances_of (ToStage x) = []
+instances_of (ToPublish x) = []
 instances_of (ToCheck x) = []
 instances_of (ToList x) = []
 
@@ -226,6 +266,8 @@ abbrev pub links : Request → Bool
 links (ToIndex x) = false
 links (ToMerge x) = x.link
 links (ToWithdraw x) = false
+links (ToStage x) = false
+links (ToPublish x) = x.link
 links (ToCheck x) = false
 links (ToList x) = false
 
@@ -234,6 +276,8 @@ abbrev pub keeps_going : Request → Bool
 keeps_going (ToIndex x) = x.keep_going
 keeps_going (ToMerge x) = false
 keeps_going (ToWithdraw x) = false
+keeps_going (ToStage x) = false
+keeps_going (ToPublish x) = false
 keeps_going (ToCheck x) = false
 keeps_going (ToList x) = false
 
@@ -242,6 +286,8 @@ abbrev pub is_json : Request → Bool
 is_json (ToIndex x) = x.new_set.json
 is_json (ToMerge x) = x.new_set.json
 is_json (ToWithdraw x) = x.new_set.json
+is_json (ToStage x) = x.json
+is_json (ToPublish x) = x.new_set.json
 is_json (ToCheck x) = x.json
 is_json (ToList x) = x.json
 
@@ -252,17 +298,17 @@ id_of r = option_and_then (λ n. option_map string_bytes n.id) (new_set_of r)
 abbrev pub uid_of : Request → Option Text
 uid_of r = option_and_then (λ n. option_map string_bytes n.uid) (new_set_of r)
 
--- the folder of that file-set
+-- the folder that it writes to, or else an empty path
 abbrev pub folder_of : Request → Text
-folder_of r = option_map_or (λ n. string_bytes n.out) (new_set_of r) []
+folder_of r = option_map_or string_bytes (written_of r) []
 
 -- whether it is planned alone
 abbrev pub is_dry : Request → Bool
 is_dry r = option_map_or (λ n. n.dry_run) (new_set_of r) false
 
--- all paths of the line: the folder of the new file-set, and then the paths that it reads
+-- all paths of the line: the folder that it writes to, and then the paths that it reads
 abbrev pub paths_of : Request → List (String Global)
-paths_of r = option_map_or (λ n. n.out ∷ read_of r) (new_set_of r) (read_of r)
+paths_of r = option_map_or (λ folder. folder ∷ read_of r) (written_of r) (read_of r)
 
 -- the request has an ID or a UID of the wrong form, or withdraws such a UID
 abbrev pub RequestsBadName : Request → Type 0

@@ -1,127 +1,20 @@
 //! The commands, as the parser gets them.
 ghost use Rattle.std.specs.Prelude.{◌≡◌, IfOk};
 ghost use Rattle.clap.specs.Words.{kind_of};
-ghost use Rattle.dd_line.specs.Line.{HasApp, HasRule, any_paths, check_app, comparing_app, dicomdir_app};
-ghost use Rattle.dd_line.specs.Line.{files0_from_name, flag, index_app, json_name, labelled_app, list_app};
-ghost use Rattle.dd_line.specs.Line.{making_app, merge_app, one_path, reading_app};
-ghost use Rattle.dd_line.specs.Line.{some_paths, text_option, verbose_name, withdraw_app, writing_app};
+ghost use Rattle.dd_line.specs.Line.{HasApp, bare_app, check_app, comparing_app, dicomdir_app, index_app, labelled_app};
+ghost use Rattle.dd_line.specs.Line.{linking_app, list_app, making_app, merge_app, publish_app, reading_app};
+ghost use Rattle.dd_line.specs.Line.{showing_app, stage_app, staging_app, withdraw_app, writing_app};
 
+use crate::arguments::{
+    self, any_paths, files0_from, flag, from, json, link, option, path, paths, quiet, verbose,
+};
 use crate::endings;
 use crate::line::Verb;
 use crate::sizes::has_unit;
 use crate::version::VERSION;
 use clap::error::ErrorKind;
-use clap::{Arg, ArgAction, Command, Error, value_parser};
+use clap::{Command, Error, value_parser};
 use std::alloc::{AllocError, Global};
-
-// The names of the options.
-pub(crate) const ID: &str = "id";
-
-pub(crate) const UID: &str = "uid";
-
-pub(crate) const MAX_BYTES: &str = "max-bytes";
-
-pub(crate) const FILES0_FROM: &str = "files0-from";
-
-// The names of the flags.
-pub(crate) const KEYS: &str = "keys";
-
-pub(crate) const STRICT: &str = "strict";
-
-pub(crate) const DRY_RUN: &str = "dry-run";
-
-pub(crate) const QUIET: &str = "quiet";
-
-pub(crate) const VERBOSE: &str = "verbose";
-
-pub(crate) const LONG: &str = "long";
-
-pub(crate) const LINK: &str = "link";
-
-pub(crate) const KEEP_GOING: &str = "keep-going";
-
-pub(crate) const JSON: &str = "json";
-
-// The names of the paths.
-pub(crate) const OUT: &str = "out";
-
-pub(crate) const SOURCE: &str = "source";
-
-pub(crate) const SET: &str = "set";
-
-// Images, each by its SOP Instance UID.
-pub(crate) const INSTANCE: &str = "instance";
-
-fn option<'a>(alloc: Global, name: &'a str, value_name: &'a str, help: &'a str) -> Arg<'a>
-    ensures { HasRule (text_option name.entry.now) result }
-{
-    Arg::new(alloc, name)
-        .long(name)
-        .value_name(value_name)
-        .help(help)
-}
-
-fn flag<'a>(alloc: Global, name: &'a str, help: &'a str) -> Arg<'a>
-    ensures { HasRule (flag name.entry.now) result }
-{
-    let flag = Arg::new(alloc, name)
-        .long(name)
-        .action(ArgAction::SetTrue)
-        .help(help);
-    if name == KEEP_GOING {
-        return flag.short('k');
-    }
-    flag
-}
-
-fn verbose<'a>(alloc: Global) -> Arg<'a>
-    ensures { HasRule (flag verbose_name) result }
-{
-    flag(
-        alloc,
-        VERBOSE,
-        "Shows hints where there is no terminal, too",
-    )
-}
-
-fn json<'a>(alloc: Global) -> Arg<'a>
-    ensures { HasRule (flag json_name) result }
-{
-    flag(alloc, JSON, "Prints each line as a JSON object")
-}
-
-/// Makes a path that has to be given.
-fn path<'a>(alloc: Global, name: &'a str, value_name: &'a str, help: &'a str) -> Arg<'a>
-    ensures { HasRule (one_path name.entry.now) result }
-{
-    Arg::new(alloc, name)
-        .required(true)
-        .value_name(value_name)
-        .help(help)
-}
-
-fn paths<'a>(alloc: Global, name: &'a str, value_name: &'a str, help: &'a str) -> Arg<'a>
-    ensures { HasRule (some_paths name.entry.now) result }
-{
-    path(alloc, name, value_name, help).num_args(1..)
-}
-
-fn any_paths<'a>(alloc: Global, name: &'a str, value_name: &'a str, help: &'a str) -> Arg<'a>
-    ensures { HasRule (any_paths name.entry.now) result }
-{
-    paths(alloc, name, value_name, help).required(false)
-}
-
-fn files0_from<'a>(alloc: Global) -> Arg<'a>
-    ensures { HasRule (text_option files0_from_name) result }
-{
-    option(
-        alloc,
-        FILES0_FROM,
-        "FILE",
-        "Reads names from FILE, or -, ended by zero bytes",
-    )
-}
 
 /// The options for the label of a directory and its size.
 fn labelled_command<'a>(
@@ -135,19 +28,19 @@ fn labelled_command<'a>(
         .about(about)
         .arg(option(
             alloc,
-            ID,
+            arguments::ID,
             "ID",
             "ID of the file-set, such as DISC1; by default empty",
         ))?
         .arg(option(
             alloc,
-            UID,
+            arguments::UID,
             "UID",
             "UID of the file-set; else made from its content",
         ))?
         .arg(option(
             alloc,
-            MAX_BYTES,
+            arguments::MAX_BYTES,
             "N",
             "Most bytes of DICOMDIR, not of the disc, such as 650M or 3G",
         ))
@@ -164,10 +57,14 @@ fn making_command<'a>(
     labelled_command(alloc, name, about)?
         .arg(flag(
             alloc,
-            STRICT,
+            arguments::STRICT,
             "Makes nothing where something would be left out",
         ))?
-        .arg(flag(alloc, DRY_RUN, "Makes nothing, and says what it would make"))
+        .arg(flag(
+            alloc,
+            arguments::DRY_RUN,
+            "Makes nothing, and says what it would make",
+        ))
 }
 
 /// Adds what a command shows, and the folder that it writes to.
@@ -179,12 +76,12 @@ fn writing_command<'a>(
     ensures { IfOk result (HasApp (writing_app name.entry.now)) }
 {
     making_command(alloc, name, about)?
-        .arg(flag(alloc, QUIET, "Shows no progress and no hints"))?
+        .arg(quiet(alloc))?
         .arg(verbose(alloc))?
         .arg(json(alloc))?
         .arg(path(
             alloc,
-            OUT,
+            arguments::OUT,
             "OUT",
             "New folder, or one with no DICOMDIR; no file there is overwritten",
         ))
@@ -199,35 +96,41 @@ fn index_command<'a>(alloc: Global) -> Result<Command<'a>, AllocError>
         .arg(files0_from(alloc))?
         .arg(flag(
             alloc,
-            KEEP_GOING,
+            arguments::KEEP_GOING,
             "Skips a SRC that can't be opened or read; the status is then 3",
         ))?
         .arg(any_paths(
             alloc,
-            SOURCE,
+            arguments::SOURCE,
             "SRC",
             "DICOM files; one that is no image, or lacks a key, is skipped",
         ))
+}
+
+/// Adds what images a command takes, and whether it copies them.
+fn linking_command<'a>(
+    alloc: Global,
+    name: &'a str,
+    about: &'a str,
+) -> Result<Command<'a>, AllocError>
+    ensures { IfOk result (HasApp (linking_app name.entry.now)) }
+{
+    writing_command(alloc, name, about)?
+        .arg(files0_from(alloc))?
+        .arg(link(alloc))
 }
 
 fn merge_command<'a>(alloc: Global) -> Result<Command<'a>, AllocError>
     ensures { IfOk result (HasApp merge_app) }
 {
     let about = "Makes a file-set of others: copies their images, writes its DICOMDIR";
-    let command = writing_command(alloc, "merge", about)?.after_help(endings::MERGE);
-    command
-        .arg(files0_from(alloc))?
-        .arg(flag(
-            alloc,
-            LINK,
-            "Makes hard links to the images in place of copies",
-        ))?
-        .arg(any_paths(
-            alloc,
-            SET,
-            "SET",
-            "Folders with a DICOMDIR of this program each; they are not changed",
-        ))
+    let command = linking_command(alloc, "merge", about)?.after_help(endings::MERGE);
+    command.arg(any_paths(
+        alloc,
+        arguments::SET,
+        "SET",
+        "Folders with a DICOMDIR of this program each; they are not changed",
+    ))
 }
 
 fn withdraw_command<'a>(alloc: Global) -> Result<Command<'a>, AllocError>
@@ -238,16 +141,71 @@ fn withdraw_command<'a>(alloc: Global) -> Result<Command<'a>, AllocError>
         .after_help(endings::WITHDRAW)
         .arg(path(
             alloc,
-            SET,
+            arguments::SET,
             "SET",
             "Folder with a DICOMDIR of this program; it is not changed",
         ))?
         .arg(paths(
             alloc,
-            INSTANCE,
+            arguments::INSTANCE,
             "UID",
             "SOP Instance UIDs of the images; one that the file-set lacks is withdrawn too",
         ))
+}
+
+/// Adds what a command shows.
+fn showing_command<'a>(
+    alloc: Global,
+    name: &'a str,
+    about: &'a str,
+) -> Result<Command<'a>, AllocError>
+    ensures { IfOk result (HasApp (showing_app name.entry.now)) }
+{
+    Command::new(alloc, name)
+        .about(about)
+        .arg(quiet(alloc))?
+        .arg(verbose(alloc))?
+        .arg(json(alloc))
+}
+
+/// Adds where the sources of a pile are looked up.
+fn staging_command<'a>(alloc: Global) -> Result<Command<'a>, AllocError>
+    ensures { IfOk result (HasApp staging_app) }
+{
+    let about = "Copies files to a pile, with a list of what they are, for publish";
+    let command = showing_command(alloc, "stage", about)?.after_help(endings::STAGE);
+    command.arg(files0_from(alloc))?.arg(from(alloc))
+}
+
+fn stage_command<'a>(alloc: Global) -> Result<Command<'a>, AllocError>
+    ensures { IfOk result (HasApp stage_app) }
+{
+    staging_command(alloc)?
+        .arg(path(
+            alloc,
+            arguments::OUT,
+            "PILE",
+            "New folder; one that is there is refused",
+        ))?
+        .arg(any_paths(
+            alloc,
+            arguments::SOURCE,
+            "SRC",
+            "DICOM files; what is wrong with one is noted for publish",
+        ))
+}
+
+fn publish_command<'a>(alloc: Global) -> Result<Command<'a>, AllocError>
+    ensures { IfOk result (HasApp publish_app) }
+{
+    let about = "Makes a file-set of piles, as index does of their sources";
+    let command = linking_command(alloc, "publish", about)?.after_help(endings::PUBLISH);
+    command.arg(from(alloc))?.arg(any_paths(
+        alloc,
+        arguments::PILE,
+        "PILE",
+        "Folders that stage made, in the order of their sources; they are not changed",
+    ))
 }
 
 fn reading_command<'a>(
@@ -259,7 +217,7 @@ fn reading_command<'a>(
 {
     Command::new(alloc, name).about(about).arg(path(
         alloc,
-        SET,
+        arguments::SET,
         "SET",
         "Folder of the file-set; nothing in it is changed",
     ))
@@ -273,12 +231,12 @@ fn comparing_command<'a>(alloc: Global) -> Result<Command<'a>, AllocError>
     command
         .arg(flag(
             alloc,
-            KEYS,
+            arguments::KEYS,
             "Also compares what each image says of itself with its record",
         ))?
         .arg(flag(
             alloc,
-            STRICT,
+            arguments::STRICT,
             "Also finds each file whose record has no digest to compare",
         ))
 }
@@ -287,7 +245,7 @@ fn check_command<'a>(alloc: Global) -> Result<Command<'a>, AllocError>
     ensures { IfOk result (HasApp check_app) }
 {
     comparing_command(alloc)?
-        .arg(flag(alloc, QUIET, "Shows no progress and no hints"))?
+        .arg(quiet(alloc))?
         .arg(verbose(alloc))?
         .arg(json(alloc))
 }
@@ -300,18 +258,20 @@ fn list_command<'a>(alloc: Global) -> Result<Command<'a>, AllocError>
     command
         .arg(flag(
             alloc,
-            LONG,
+            arguments::LONG,
             "Also prints names, dates, times, modalities and numbers",
         ))?
         .arg(verbose(alloc))?
         .arg(json(alloc))
 }
 
-/// Makes a command that makes a file-set, with the name by which the user calls it.
+/// Makes a command that takes sources or `--max-bytes`, with the name by which the user calls it.
 fn command_of<'a>(alloc: Global, verb: Verb) -> Result<Command<'a>, AllocError> {
     match verb {
         Verb::Merge => merge_command(alloc)?.bin_name("dicomdir merge"),
         Verb::Withdraw => withdraw_command(alloc)?.bin_name("dicomdir withdraw"),
+        Verb::Stage => stage_command(alloc)?.bin_name("dicomdir stage"),
+        Verb::Publish => publish_command(alloc)?.bin_name("dicomdir publish"),
         _ => index_command(alloc)?.bin_name("dicomdir index"),
     }
 }
@@ -345,7 +305,7 @@ pub(crate) fn wrong_limit(alloc: Global, verb: Verb, value: &str) -> Result<Erro
 
 /// Has the parser say what is wrong with a number.
 fn number_in_line(alloc: Global, value: &str) -> Result<Result<(), Error>, AllocError> {
-    let number = option(alloc, MAX_BYTES, "N", "").value_parser(value_parser!(u32));
+    let number = option(alloc, arguments::MAX_BYTES, "N", "").value_parser(value_parser!(u32));
     let command = Command::new(alloc, "dicomdir").arg(number)?;
     let words = ["dicomdir", "--max-bytes", value];
     Ok(match command.try_get_matches_from(&words) {
@@ -354,8 +314,8 @@ fn number_in_line(alloc: Global, value: &str) -> Result<Result<(), Error>, Alloc
     })
 }
 
-pub(crate) fn program<'a>(alloc: Global) -> Result<Command<'a>, AllocError>
-    ensures { IfOk result (HasApp dicomdir_app) }
+fn bare_program<'a>(alloc: Global) -> Command<'a>
+    ensures { HasApp bare_app result }
 {
     Command::new(alloc, "dicomdir")
         .about(
@@ -364,9 +324,17 @@ pub(crate) fn program<'a>(alloc: Global) -> Result<Command<'a>, AllocError>
         .version(VERSION)
         .after_help(endings::PROGRAM)
         .subcommand_required(true)
+}
+
+pub(crate) fn program<'a>(alloc: Global) -> Result<Command<'a>, AllocError>
+    ensures { IfOk result (HasApp dicomdir_app) }
+{
+    bare_program(alloc)
         .subcommand(index_command(alloc)?)?
         .subcommand(merge_command(alloc)?)?
         .subcommand(withdraw_command(alloc)?)?
+        .subcommand(stage_command(alloc)?)?
+        .subcommand(publish_command(alloc)?)?
         .subcommand(check_command(alloc)?)?
         .subcommand(list_command(alloc)?)
 }

@@ -99,6 +99,46 @@ Whatever file-set NEW is merged with, no image with these UIDs is kept.
 
 An ID has up to 16 characters of A to Z, 0 to 9 and _.";
 
+pub(crate) const STAGE: &str = "\
+Example:
+  dicomdir stage PILE1 images/a*        these two may run at the same time,
+  dicomdir stage PILE2 images/b*        on two computers, too
+  dicomdir publish --link DISC1 PILE1 PILE2
+
+Lines of the output:
+  DONE <n> sources, <s> skipped, <b> bytes of images
+                                  The pile is whole. Publish will skip <s> of
+                                  the <n> sources. The others have <b> bytes.
+
+Each SRC is copied byte for byte, to PILE/000/000001 and so on. PILE/STAGED is a
+list that names it, and says what it is or what is wrong with it. No SKIP or
+NOTE is printed: publish prints them, as index does. A SRC that can't be opened
+or read ends the run, and PILE then has no list. Remove it and take a new one.
+--from FOLDER looks up SRC and FILE in FOLDER. PILE is not looked up there.
+--files0-from FILE adds the names that FILE holds, each ended by a zero byte.
+Where FILE is -, they are read from the standard input.";
+
+pub(crate) const PUBLISH: &str = "\
+Example:
+  dicomdir publish --link DISC1 PILE1 PILE2
+
+Lines of the output:
+  SKIP, NOTE, DONE and PLAN are those of 'dicomdir index' on all sources of the
+  piles, in their order. They name the sources as stage was given them.
+
+The file-set is the one that index makes of these sources. Each image is
+compared with the list of its pile while it is copied.
+With --link an image is not copied: its file in PILE gets a hard link in OUT,
+and is not read. It must have the length that the list says. Use it for piles
+that you have just made yourself. Where the system gives no hard link, as on
+another file system, the file is copied and compared.
+'rm -r PILE' removes a pile that is published, and leaves OUT whole.
+--from FOLDER looks up OUT and FILE in FOLDER. PILE is not looked up there.
+--files0-from FILE adds the piles that FILE names, each name ended by a zero
+byte. Where FILE is -, they are read from the standard input.
+
+An ID has up to 16 characters of A to Z, 0 to 9 and _.";
+
 pub(crate) const CHECK: &str = "\
 Lines of the output:
   OK <n> records                  Each file is there and can be read. It is

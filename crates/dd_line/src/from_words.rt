@@ -5,12 +5,13 @@ ghost use Rattle.dd_line.specs.Line.{RefusesWhere, dicomdir_app, out_name, verb_
 ghost use Rattle.dd_line.specs.Requests.{GivesNoLimit, GivesNoSource, HasFlags, HasOne, HasSources, IsRequested};
 ghost use Rattle.dd_line.specs.Requests.{IsServed, MakesAsGiven, NamesCommand, Requests};
 
-use crate::commands::{self, no_source, program};
+use crate::arguments;
+use crate::commands::{no_source, program};
 use crate::given::{flag_of, limit_of, path_of, value_of, values_of};
 use crate::line::{LineFault, Verb};
 use crate::request::{
-    CheckRequest, IndexRequest, ListRequest, MergeRequest, NewSet, Request, Sources,
-    WithdrawRequest,
+    CheckRequest, IndexRequest, ListRequest, MergeRequest, NewSet, PublishRequest, Request,
+    Sources, StageRequest, WithdrawRequest,
 };
 use clap::ArgMatches;
 use std::alloc::{AllocError, Global};
@@ -24,15 +25,15 @@ fn new_set_of(alloc: Global, verb: Verb, given: &ArgMatches<'_>) -> Result<NewSe
 {
     let max_bytes = limit_of(alloc, verb, given)?;
     Ok(NewSet {
-        out: path_of(alloc, given, commands::OUT)?,
-        id: value_of(alloc, given, commands::ID)?,
-        uid: value_of(alloc, given, commands::UID)?,
+        out: path_of(alloc, given, arguments::OUT)?,
+        id: value_of(alloc, given, arguments::ID)?,
+        uid: value_of(alloc, given, arguments::UID)?,
         max_bytes,
-        strict: flag_of(given, commands::STRICT),
-        dry_run: flag_of(given, commands::DRY_RUN),
-        quiet: flag_of(given, commands::QUIET),
-        verbose: flag_of(given, commands::VERBOSE),
-        json: flag_of(given, commands::JSON),
+        strict: flag_of(given, arguments::STRICT),
+        dry_run: flag_of(given, arguments::DRY_RUN),
+        quiet: flag_of(given, arguments::QUIET),
+        verbose: flag_of(given, arguments::VERBOSE),
+        json: flag_of(given, arguments::JSON),
     })
 }
 
@@ -47,7 +48,7 @@ fn sources_of(
     ensures some { RefusesWhere ⊥ (GivesNoSource name.now (rows_of (found_of given.now))) result }
 {
     let words = values_of(alloc, given, name)?;
-    let files0_from = value_of(alloc, given, commands::FILES0_FROM)?;
+    let files0_from = value_of(alloc, given, arguments::FILES0_FROM)?;
     if words.is_empty() && files0_from.is_none() {
         return Err(LineFault::Refused(no_source(alloc, verb)?));
     }
@@ -62,8 +63,8 @@ fn index_request(alloc: Global, given: &ArgMatches<'_>) -> Result<Request, LineF
         (LacksSources (Some (verb_name Verb.Index, rows_of (found_of given.now)))) result }
 {
     let new_set = new_set_of(alloc, Verb::Index, given)?;
-    let sources = sources_of(alloc, Verb::Index, given, commands::SOURCE)?;
-    let keep_going = flag_of(given, commands::KEEP_GOING);
+    let sources = sources_of(alloc, Verb::Index, given, arguments::SOURCE)?;
+    let keep_going = flag_of(given, arguments::KEEP_GOING);
     Ok(Request::Index(IndexRequest {
         new_set,
         sources,
@@ -79,8 +80,8 @@ fn merge_request(alloc: Global, given: &ArgMatches<'_>) -> Result<Request, LineF
         (LacksSources (Some (verb_name Verb.Merge, rows_of (found_of given.now)))) result }
 {
     let new_set = new_set_of(alloc, Verb::Merge, given)?;
-    let sets = sources_of(alloc, Verb::Merge, given, commands::SET)?;
-    let link = flag_of(given, commands::LINK);
+    let sets = sources_of(alloc, Verb::Merge, given, arguments::SET)?;
+    let link = flag_of(given, arguments::LINK);
     Ok(Request::Merge(MergeRequest {
         new_set,
         sets,
@@ -96,8 +97,40 @@ fn withdraw_request(alloc: Global, given: &ArgMatches<'_>) -> Result<Request, Li
 {
     Ok(Request::Withdraw(WithdrawRequest {
         new_set: new_set_of(alloc, Verb::Withdraw, given)?,
-        set: path_of(alloc, given, commands::SET)?,
-        instances: values_of(alloc, given, commands::INSTANCE)?,
+        set: path_of(alloc, given, arguments::SET)?,
+        instances: values_of(alloc, given, arguments::INSTANCE)?,
+    }))
+}
+
+fn stage_request(alloc: Global, given: &ArgMatches<'_>) -> Result<Request, LineFault>
+    requires { IsServed Verb.Stage (rows_of (found_of given.now)) }
+    ensures request { IfOk result (λ request.
+        Requests request (verb_name Verb.Stage) (rows_of (found_of given.now))) }
+    ensures wrong { RefusesWhere (GivesNoLimit (rows_of (found_of given.now)))
+        (LacksSources (Some (verb_name Verb.Stage, rows_of (found_of given.now)))) result }
+{
+    Ok(Request::Stage(StageRequest {
+        pile: path_of(alloc, given, arguments::OUT)?,
+        sources: sources_of(alloc, Verb::Stage, given, arguments::SOURCE)?,
+        from: value_of(alloc, given, arguments::FROM)?,
+        quiet: flag_of(given, arguments::QUIET),
+        verbose: flag_of(given, arguments::VERBOSE),
+        json: flag_of(given, arguments::JSON),
+    }))
+}
+
+fn publish_request(alloc: Global, given: &ArgMatches<'_>) -> Result<Request, LineFault>
+    requires { IsServed Verb.Publish (rows_of (found_of given.now)) }
+    ensures request { IfOk result (λ request.
+        Requests request (verb_name Verb.Publish) (rows_of (found_of given.now))) }
+    ensures wrong { RefusesWhere (GivesNoLimit (rows_of (found_of given.now)))
+        (LacksSources (Some (verb_name Verb.Publish, rows_of (found_of given.now)))) result }
+{
+    Ok(Request::Publish(PublishRequest {
+        new_set: new_set_of(alloc, Verb::Publish, given)?,
+        piles: sources_of(alloc, Verb::Publish, given, arguments::PILE)?,
+        from: value_of(alloc, given, arguments::FROM)?,
+        link: flag_of(given, arguments::LINK),
     }))
 }
 
@@ -107,12 +140,12 @@ fn check_request(alloc: Global, given: &ArgMatches<'_>) -> Result<Request, Alloc
         Requests request (verb_name Verb.Check) (rows_of (found_of given.now))) }
 {
     Ok(Request::Check(CheckRequest {
-        set: path_of(alloc, given, commands::SET)?,
-        keys: flag_of(given, commands::KEYS),
-        strict: flag_of(given, commands::STRICT),
-        quiet: flag_of(given, commands::QUIET),
-        verbose: flag_of(given, commands::VERBOSE),
-        json: flag_of(given, commands::JSON),
+        set: path_of(alloc, given, arguments::SET)?,
+        keys: flag_of(given, arguments::KEYS),
+        strict: flag_of(given, arguments::STRICT),
+        quiet: flag_of(given, arguments::QUIET),
+        verbose: flag_of(given, arguments::VERBOSE),
+        json: flag_of(given, arguments::JSON),
     }))
 }
 
@@ -122,10 +155,10 @@ fn list_request(alloc: Global, given: &ArgMatches<'_>) -> Result<Request, AllocE
         Requests request (verb_name Verb.List) (rows_of (found_of given.now))) }
 {
     Ok(Request::List(ListRequest {
-        set: path_of(alloc, given, commands::SET)?,
-        long: flag_of(given, commands::LONG),
-        verbose: flag_of(given, commands::VERBOSE),
-        json: flag_of(given, commands::JSON),
+        set: path_of(alloc, given, arguments::SET)?,
+        long: flag_of(given, arguments::LONG),
+        verbose: flag_of(given, arguments::VERBOSE),
+        json: flag_of(given, arguments::JSON),
     }))
 }
 
@@ -140,6 +173,8 @@ fn request_of(alloc: Global, found: &ArgMatches<'_>) -> Result<Request, LineFaul
         Some(("index", given)) => index_request(alloc, given),
         Some(("merge", given)) => merge_request(alloc, given),
         Some(("withdraw", given)) => withdraw_request(alloc, given),
+        Some(("stage", given)) => stage_request(alloc, given),
+        Some(("publish", given)) => publish_request(alloc, given),
         Some(("check", given)) => Ok(check_request(alloc, given)?),
         Some(("list", given)) => Ok(list_request(alloc, given)?),
         _ => unreachable!(),
@@ -162,8 +197,8 @@ fn matches_of<'a>(alloc: Global, words: &'a [String]) -> Result<ArgMatches<'a>, 
 /// Reads what the words of a command line ask for. The first word is the program's name.
 ///
 /// A line that the program does not take, or that asks for help, is `Refused`. So is `--max-bytes` with what is no
-/// number of bytes, or more than 4294967295, and `index` or `merge` without a source, as a path or by
-/// `--files0-from`.
+/// number of bytes, or more than 4294967295, and `index`, `merge`, `stage` or `publish` without a source, as a path or
+/// by `--files0-from`.
 pub fn read_request(alloc: Global, words: &[String]) -> Result<Request, LineFault>
     ensures request { IfOk result (λ request.
         IsRequested request (subcommand_of dicomdir_app (words_of words.now))) }

@@ -6,7 +6,8 @@ ghost use Rattle.dd_line.specs.Line.{IsLimit, RefusesWhere, flag_names, given_fo
 ghost use Rattle.dd_line.specs.Line.{words_of};
 ghost use Rattle.dd_line.specs.Requests.{GivesNoLimit, HasFlags, HasOne, IsOnly};
 
-use crate::commands::{MAX_BYTES, wrong_limit};
+use crate::arguments::MAX_BYTES;
+use crate::commands::wrong_limit;
 use crate::line::{LineFault, Verb};
 use crate::sizes::size_in;
 use clap::ArgMatches;

@@ -3,6 +3,7 @@
 //! Its promise is on `read_request`: what a line asks for is exactly what the parser's definitions find in its words.
 #![tactic(auto)]
 
+mod arguments;
 mod commands;
 mod endings;
 mod from_words;
@@ -15,6 +16,6 @@ mod version;
 pub use from_words::read_request;
 pub use line::{Asked, LineFault, Verb, read_words};
 pub use request::{
-    CheckRequest, IndexRequest, ListRequest, MergeRequest, NewSet, Request, Sources,
-    WithdrawRequest,
+    CheckRequest, IndexRequest, ListRequest, MergeRequest, NewSet, PublishRequest, Request,
+    Sources, StageRequest, WithdrawRequest,
 };

@@ -6,7 +6,7 @@ ghost use Rattle.dd_line.specs.Line.{dicomdir_app, words_of};
 ghost use Rattle.dd_line.specs.Requests.{AsksToMake, AsksToRead, Requests};
 
 use crate::from_words::read_request;
-use crate::request::{NewSet, Request, Sources};
+use crate::request::{NewSet, PublishRequest, Request, Sources, StageRequest, WithdrawRequest};
 use clap::error::ErrorKind;
 use std::alloc::{AllocError, Global};
 use thiserror::Error;
@@ -20,15 +20,19 @@ pub enum Verb {
     Merge,
     /// `withdraw OUT SET UID...` makes a file-set of one without some of its images, for good.
     Withdraw,
+    /// `stage PILE SRC...` makes a pile of copies of files, with a list of what they are.
+    Stage,
+    /// `publish OUT PILE...` makes a file-set of piles, as `index` does of their sources.
+    Publish,
     /// `check SET` compares the files of a file-set with its directory.
     Check,
     /// `list SET` lists the records of a directory.
     List,
 }
 
-/// Says what a command line asks for. `index` and `merge` have at least one path, and at least two where no file of
-/// names is given. `withdraw` has two paths and at least one UID; `check` and `list` have one path. What a command has
-/// no option for is `None`, false or empty; `max_bytes` is 4294967295 then.
+/// Says what a command line asks for. `index`, `merge`, `stage` and `publish` have at least one path, and at least two
+/// where no file of names is given. `withdraw` has two paths and at least one UID; `check` and `list` have one path.
+/// What a command has no option for is `None`, false or empty; `max_bytes` is 4294967295 then.
 #[derive(Debug, Drop)]
 pub struct Asked {
     pub verb: Verb,
@@ -55,14 +59,17 @@ pub struct Asked {
     pub verbose: bool,
     /// `--long`: `list` also prints names, dates, times, modalities and numbers.
     pub long: bool,
-    /// `--link`: `merge` gives images hard links in place of copies.
+    /// `--link`: `merge` and `publish` give images hard links in place of copies.
     pub link: bool,
     /// `--keep-going`: `index` skips a source that can't be opened or read.
     pub keep_going: bool,
     /// `--json`: each line is printed as a JSON object.
     pub json: bool,
-    /// `--files0-from` of `index` and `merge`: the file that holds names of more sources, each ended by a zero byte.
+    /// `--files0-from` of a command that takes sources: the file that holds names of more of them, each ended by a zero
+    /// byte.
     pub files0_from: Option<String>,
+    /// `--from` of `stage` and `publish`: the folder in which all paths but those of piles are looked up.
+    pub from: Option<String>,
 }
 
 /// Says why a command line asks for nothing.
@@ -110,7 +117,7 @@ fn making_line(
     ensures set { IfOk result (AsksToMake new_set (words_of paths.items)) }
     ensures uids { IfOk result (λ asked. asked.uids.items ≡ []) }
     ensures flags { IfOk result (λ asked. (asked.link ≡ false) × (asked.keep_going ≡ false)) }
-    ensures files { IfOk result (λ asked. asked.files0_from ≡ None) }
+    ensures files { IfOk result (λ asked. (asked.files0_from ≡ None) × (asked.from ≡ None)) }
 {
     paths.insert(0, new_set.out)?;
     Ok(Asked {
@@ -130,6 +137,7 @@ fn making_line(
         keep_going: false,
         json: new_set.json,
         files0_from: None,
+        from: None,
     })
 }
 
@@ -143,7 +151,8 @@ fn sources_line(
     ensures set { IfOk result (AsksToMake new_set (words_of sources.words.items)) }
     ensures uids { IfOk result (λ asked. asked.uids.items ≡ []) }
     ensures flags { IfOk result (λ asked. (asked.link ≡ false) × (asked.keep_going ≡ false)) }
-    ensures files { IfOk result (λ asked. asked.files0_from ≡ sources.files0_from) }
+    ensures files { IfOk result (λ asked.
+        (asked.files0_from ≡ sources.files0_from) × (asked.from ≡ None)) }
 {
     let mut asked = making_line(alloc, verb, new_set, sources.words)?;
     asked.files0_from = sources.files0_from;
@@ -175,7 +184,68 @@ fn reading_line(alloc: Global, verb: Verb, set: String) -> Result<Asked, AllocEr
         keep_going: false,
         json: false,
         files0_from: None,
+        from: None,
     })
+}
+
+fn withdraw_line(alloc: Global, withdraw: WithdrawRequest) -> Result<Asked, AllocError>
+    ensures asked { IfOk result (λ asked. (command : Text) → (given : List Row)
+        → Requests (Request.Withdraw withdraw) command given → Asks asked command given) }
+    ensures fits { IfOk result FitsCommand }
+{
+    let mut paths = Vec::new(alloc);
+    paths.push(withdraw.set)?;
+    let mut asked = making_line(alloc, Verb::Withdraw, withdraw.new_set, paths)?;
+    asked.uids = withdraw.instances;
+    Ok(asked)
+}
+
+fn stage_line(alloc: Global, stage: StageRequest) -> Result<Asked, AllocError>
+    ensures asked { IfOk result (λ asked. (command : Text) → (given : List Row)
+        → Requests (Request.Stage stage) command given → Asks asked command given) }
+    ensures fits { IfOk result FitsCommand }
+{
+    let StageRequest {
+        pile,
+        sources,
+        from,
+        quiet,
+        verbose,
+        json,
+    } = stage;
+    let Sources { words, files0_from } = sources;
+    let mut paths = words;
+    paths.insert(0, pile)?;
+    Ok(Asked {
+        verb: Verb::Stage,
+        id: None,
+        uid: None,
+        max_bytes: u32::MAX,
+        paths,
+        uids: Vec::new(alloc),
+        keys: false,
+        strict: false,
+        dry_run: false,
+        quiet,
+        verbose,
+        long: false,
+        link: false,
+        keep_going: false,
+        json,
+        files0_from,
+        from,
+    })
+}
+
+fn publish_line(alloc: Global, publish: PublishRequest) -> Result<Asked, AllocError>
+    ensures asked { IfOk result (λ asked. (command : Text) → (given : List Row)
+        → Requests (Request.Publish publish) command given → Asks asked command given) }
+    ensures fits { IfOk result FitsCommand }
+{
+    let mut asked = sources_line(alloc, Verb::Publish, publish.new_set, publish.piles)?;
+    asked.link = publish.link;
+    asked.from = publish.from;
+    Ok(asked)
 }
 
 fn line_of(alloc: Global, request: Request) -> Result<Asked, AllocError>
@@ -194,13 +264,9 @@ fn line_of(alloc: Global, request: Request) -> Result<Asked, AllocError>
             asked.link = merge.link;
             Ok(asked)
         }
-        Request::Withdraw(withdraw) => {
-            let mut paths = Vec::new(alloc);
-            paths.push(withdraw.set)?;
-            let mut asked = making_line(alloc, Verb::Withdraw, withdraw.new_set, paths)?;
-            asked.uids = withdraw.instances;
-            Ok(asked)
-        }
+        Request::Withdraw(withdraw) => withdraw_line(alloc, withdraw),
+        Request::Stage(stage) => stage_line(alloc, stage),
+        Request::Publish(publish) => publish_line(alloc, publish),
         Request::Check(check) => {
             let mut asked = reading_line(alloc, Verb::Check, check.set)?;
             asked.keys = check.keys;

@@ -9,6 +9,10 @@ pub enum Request {
     Merge(MergeRequest),
     /// `withdraw OUT SET UID...`
     Withdraw(WithdrawRequest),
+    /// `stage PILE SRC...`
+    Stage(StageRequest),
+    /// `publish OUT PILE...`
+    Publish(PublishRequest),
     /// `check SET`
     Check(CheckRequest),
     /// `list SET`
@@ -19,7 +23,7 @@ impl Request {
     ghost use Rattle.std.specs.Prelude.{option_map, string_bytes};
     ghost use Rattle.dd_line.specs.Requests.{id_of, new_set_of, uid_of};
 
-    /// Gives the file-set to make, for `index`, `merge` and `withdraw`.
+    /// Gives the file-set to make, for `index`, `merge`, `withdraw` and `publish`.
     pub fn new_set(&self) -> Option<&NewSet>
         ensures { new_set_of self.now ≡ option_map (λ set. set.now) result }
     {
@@ -27,7 +31,8 @@ impl Request {
             Request::Index(index) => Some(&index.new_set),
             Request::Merge(merge) => Some(&merge.new_set),
             Request::Withdraw(withdraw) => Some(&withdraw.new_set),
-            Request::Check(_) | Request::List(_) => None,
+            Request::Publish(publish) => Some(&publish.new_set),
+            Request::Stage(_) | Request::Check(_) | Request::List(_) => None,
         }
     }
 
@@ -39,7 +44,8 @@ impl Request {
             Request::Index(index) => index.new_set.id.as_ref(),
             Request::Merge(merge) => merge.new_set.id.as_ref(),
             Request::Withdraw(withdraw) => withdraw.new_set.id.as_ref(),
-            Request::Check(_) | Request::List(_) => None,
+            Request::Publish(publish) => publish.new_set.id.as_ref(),
+            Request::Stage(_) | Request::Check(_) | Request::List(_) => None,
         }
     }
 
@@ -51,7 +57,8 @@ impl Request {
             Request::Index(index) => index.new_set.uid.as_ref(),
             Request::Merge(merge) => merge.new_set.uid.as_ref(),
             Request::Withdraw(withdraw) => withdraw.new_set.uid.as_ref(),
-            Request::Check(_) | Request::List(_) => None,
+            Request::Publish(publish) => publish.new_set.uid.as_ref(),
+            Request::Stage(_) | Request::Check(_) | Request::List(_) => None,
         }
     }
 }
@@ -79,7 +86,7 @@ pub struct NewSet {
     pub json: bool,
 }
 
-/// Lists what a new file-set is made of: one path at least, or a file of names.
+/// Lists what a new file-set or pile is made of: one path at least, or a file of names.
 #[derive(Debug, Drop)]
 pub struct Sources {
     /// The paths, in the order of the line.
@@ -117,6 +124,34 @@ pub struct WithdrawRequest {
     /// The SOP Instance UIDs of the images, as the line spells them, in its order.
     pub instances: Vec<String>,
     ghost some: { 1 ≤ length instances.items },
+}
+
+/// Asks for a pile of files, with copies of them and a list of what they are.
+#[derive(Debug, Drop)]
+pub struct StageRequest {
+    /// The folder that the pile is made in.
+    pub pile: String,
+    pub sources: Sources,
+    /// `--from`: the folder in which the sources and the file of names are looked up.
+    pub from: Option<String>,
+    /// `--quiet`: no progress and no hints are shown.
+    pub quiet: bool,
+    /// `--verbose`: hints are shown where there is no terminal, too.
+    pub verbose: bool,
+    /// `--json`: each line is printed as a JSON object.
+    pub json: bool,
+}
+
+/// Asks for a file-set of piles.
+#[derive(Debug, Drop)]
+pub struct PublishRequest {
+    pub new_set: NewSet,
+    /// The folders of the piles.
+    pub piles: Sources,
+    /// `--from`: the folder in which the folder of the new file-set and the file of names are looked up.
+    pub from: Option<String>,
+    /// `--link`: images get hard links in place of copies.
+    pub link: bool,
 }
 
 /// Asks to compare the files of a file-set with its directory.

@@ -1,6 +1,6 @@
 -- What the named command was given is what it needs.
 use Rattle.clap.specs.declared.parser.matches.ArgMatches.TheViews.{out-ArgMatches}
-use Rattle.dd_line.specs.declared.line.Verb.TheVariants.{Index, Merge, Withdraw, Check, List as ListSet}
+use Rattle.dd_line.specs.declared.line.Verb.TheVariants.{Index, Merge, Withdraw, Stage, Publish, Check, List as ListSet}
 use Rattle.dd_line.proofs.LineVerbs.{entered_served}
 use Rattle.dd_line.proofs.from_words.request_of.Goals as goal
 
@@ -21,6 +21,18 @@ withdraw_request-requires c =
     let met = c.in-Some-withdraw-default in
     entered_served (out-ArgMatches c.args.found.now).subcommand _ _ met.ensures.name met.ensures.rows
     Withdraw c.requires met.is-withdraw
+
+pub stage_request-requires : goal.stage_request-requires
+stage_request-requires c =
+    let met = c.in-Some-stage-default in
+    entered_served (out-ArgMatches c.args.found.now).subcommand _ _ met.ensures.name met.ensures.rows
+    Stage c.requires met.is-stage
+
+pub publish_request-requires : goal.publish_request-requires
+publish_request-requires c =
+    let met = c.in-Some-publish-default in
+    entered_served (out-ArgMatches c.args.found.now).subcommand _ _ met.ensures.name met.ensures.rows
+    Publish c.requires met.is-publish
 
 pub check_request-requires : goal.check_request-requires
 check_request-requires c =
