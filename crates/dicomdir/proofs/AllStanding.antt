@@ -1,6 +1,6 @@
 -- A file-set that was made, image by image and then its directory, stands whole.
 use Rattle.std.proofs.Common.{◌≡◌, ◌∙◌, ℕ, List, [], ◌∷◌, Option, None, Some, ap, inl, inr, refl, subst, sym}
-use Rattle.std.specs.Prelude.{◌⊎◌, IsSome, option_map}
+use Rattle.std.specs.Prelude.{◌⊎◌, IsSomeAnd, option_map}
 use Rattle.dd_dir.specs.Directories.{directory_of}
 use Rattle.dd_elem.specs.FileId.{Ranks}
 use Rattle.dd_files.proofs.FileLaws.{file_here, file_there}
@@ -10,8 +10,8 @@ use Rattle.dd_filing.specs.Filing.{IsFileAs}
 use Rattle.dd_version.specs.declared.parts.Parts.{Parts}
 use Rattle.dd_layout.specs.declared.record.PlanRecord.{PlanRecord}
 use Rattle.dd_layout.specs.Layouts.{Layout}
-use Rattle.dicomdir.specs.Made.{IsFree, IsPlace, MakesFileSet, MakesImage, MakesRows}
-use Rattle.dicomdir.specs.Standing.{AllStand, HasAtOne, IfSaid, IsOfOne, KeepsAll, StandsWhole, picked_rows}
+use Rattle.dicomdir.specs.Made.{HasAtOne, IsFree, IsPlace, MakesFileSet, MakesImage, MakesRows}
+use Rattle.dicomdir.specs.Standing.{AllStand, IfSaid, IsOfOne, KeepsAll, StandsWhole, picked_rows}
 
 -- ---- one new file
 
@@ -43,12 +43,13 @@ free_before old new path keeps free = go (old.bytes_at path) refl
 
 -- ---- one image
 
-some_bytes : (file : Option (List ℕ)) → IsSome file → (bytes : List ℕ) × (file ≡ Some bytes)
-some_bytes None some = absurd (cc)
-some_bytes (Some bytes) some = (bytes, refl)
+some_bytes : (file : Option (List ℕ)) (P : List ℕ → Type 0) → IsSomeAnd file P
+    → (bytes : List ℕ) × (file ≡ Some bytes) × P bytes
+some_bytes None P some = absurd some
+some_bytes (Some bytes) P some = (bytes, refl, some)
 
 -- the image is the one new file
-record OneStands (From : List ℕ → Type 0) (folder : List ℕ) (file : Ranks) (planned : Parts) (old : Held)
+record OneStands (From MayLink : List ℕ → Type 0) (folder : List ℕ) (file : Ranks) (planned : Parts) (old : Held)
     (new : Option Held) : Type 0 where
   after : Held
   is : new ≡ Some after
@@ -57,12 +58,13 @@ record OneStands (From : List ℕ → Type 0) (folder : List ℕ) (file : Ranks)
   free : old.bytes_at path ≡ None
   bytes : List ℕ
   made : after.bytes_at ≡ with_file path (Some bytes) old.bytes_at
-  kind : IsFileAs planned AsPlanned bytes ⊎ HasAtOne From bytes old
+  of_pick : HasAtOne From bytes (Some old)
+  kind : IsFileAs planned AsPlanned bytes ⊎ MayLink bytes
 
-one_stands : (From : List ℕ → Type 0) (folder : List ℕ) (file : Ranks) (planned : Parts) (old : Held)
-    (new : Option Held) → MakesImage From folder file planned (Some old) new
-    → OneStands From folder file planned old new
-one_stands From folder file planned old new (inl copied) = record {
+one_stands : (From MayLink : List ℕ → Type 0) (folder : List ℕ) (file : Ranks) (planned : Parts) (old : Held)
+    (new : Option Held) → MakesImage From MayLink folder file planned (Some old) new
+    → OneStands From MayLink folder file planned old new
+one_stands From MayLink folder file planned old new (inl copied) = record {
   after = published copied.path copied.bytes old;
   is = copied.made;
   path = copied.path;
@@ -70,10 +72,11 @@ one_stands From folder file planned old new (inl copied) = record {
   free = copied.free;
   bytes = copied.bytes;
   made = refl;
+  of_pick = copied.of;
   kind = inl copied.is;
 }
-one_stands From folder file planned old new (inr link) =
-    let some = some_bytes (old.bytes_at link.from) link.there in
+one_stands From MayLink folder file planned old new (inr link) =
+    let some = some_bytes (old.bytes_at link.from) MayLink link.there in
     record {
       after = linked link.from link.path old;
       is = link.made;
@@ -82,82 +85,84 @@ one_stands From folder file planned old new (inr link) =
       free = link.free;
       bytes = some.0;
       made = ap (λ (file : Option (List ℕ)). with_file link.path file old.bytes_at) some.1;
-      kind = inr (record { from = link.from; picked = link.picked; there = some.1 });
+      of_pick = record { from = link.from; picked = link.picked; there = some.1 };
+      kind = inr some.2;
     }
 
-kind_later : (From : List ℕ → Type 0) (planned : Parts) (bytes : List ℕ) (old new : Held) → KeepsAll old new
-    → IsFileAs planned AsPlanned bytes ⊎ HasAtOne From bytes old
-    → IsFileAs planned AsPlanned bytes ⊎ HasAtOne From bytes new
-kind_later From planned bytes old new keeps (inl is) = inl is
-kind_later From planned bytes old new keeps (inr at) =
-    inr (record { from = at.from; picked = at.picked; there = keeps.stays at.from bytes at.there })
+-- a file that had these bytes has them still
+has_later : (From : List ℕ → Type 0) (bytes : List ℕ) (old new : Held) → KeepsAll old new
+    → HasAtOne From bytes (Some old) → HasAtOne From bytes (Some new)
+has_later From bytes old new keeps at =
+    record { from = at.from; picked = at.picked; there = keeps.stays at.from bytes at.there }
 
 -- ---- the images
 
-module _ {P : Type 0} (From : P → List ℕ → Type 0) (folder : List ℕ) (versions : List Parts) (first : Held) where
-  -- the images of these records stand, what stood before does, and nothing else was made
-  record RowsStand (rows : List (PlanRecord × P)) (old : Held) (new : Option Held) : Type 0 where
-    after : Held
-    is : new ≡ Some after
-    stays : KeepsAll old after
-    images : AllStand From folder versions rows first after
-    others : (other : List ℕ) → ¬ IsOfOne folder rows other → after.bytes_at other ≡ old.bytes_at other
+module _ {P : Type 0} (From MayLink : P → List ℕ → Type 0) (folder : List ℕ) (versions : List Parts) (first : Held)
+  where
+    -- the images of these records stand, what stood before does, and nothing else was made
+    record RowsStand (rows : List (PlanRecord × P)) (old : Held) (new : Option Held) : Type 0 where
+      after : Held
+      is : new ≡ Some after
+      stays : KeepsAll old after
+      images : AllStand From MayLink folder versions rows first after
+      others : (other : List ℕ) → ¬ IsOfOne folder rows other → after.bytes_at other ≡ old.bytes_at other
 
-  rows_stand : (rows : List (PlanRecord × P)) (old : Held) (new : Option Held) → KeepsAll first old
-      → MakesRows From folder versions rows (Some old) new → RowsStand rows old new
-  rows_stand [] old new keeps made = record {
-    after = old;
-    is = made;
-    stays = record { stays = λ path bytes stood. stood };
-    images = tt;
-    others = λ other apart. refl;
-  }
-  rows_stand (row ∷ rows) old new keeps made =
-      let row_made = made.1 in
-      let one = one_stands (From row.1) folder row_made.file row_made.planned old made.0 row_made.made in
-      let mid = one.after in
-      let step = new_keeps old mid one.path (Some one.bytes) one.made one.free in
-      let rest = rows_stand rows mid new (keeps_then first old mid keeps step)
-      (subst (λ (held : Option Held). MakesRows From folder versions rows held new) one.is made.2) in
-      record {
-        after = rest.after;
-        is = rest.is;
-        stays = keeps_then old mid rest.after step rest.stays;
-        images = (
-          record {
-            file = row_made.file;
-            named = row_made.named;
-            planned = row_made.planned;
-            of = row_made.of;
-            path = one.path;
-            place = one.place;
-            free = free_before first old one.path keeps one.free;
-            bytes = one.bytes;
-            image = rest.stays.stays one.path one.bytes
-                (ap (λ (files : List ℕ → Option (List ℕ)). files one.path) one.made
-                ∙ file_here one.path (Some one.bytes) old.bytes_at);
-            is = kind_later (From row.1) row_made.planned one.bytes mid rest.after rest.stays
-                (kind_later (From row.1) row_made.planned one.bytes old mid step one.kind);
-          },
-          rest.images,
-        );
-        others = λ other apart. rest.others other (λ later. apart (inr later))
-            ∙ ap (λ (files : List ℕ → Option (List ℕ)). files other) one.made
-            ∙ file_there one.path other (Some one.bytes) old.bytes_at
-            (λ same. apart (inl (record {
+    rows_stand : (rows : List (PlanRecord × P)) (old : Held) (new : Option Held) → KeepsAll first old
+        → MakesRows From MayLink folder versions rows (Some old) new → RowsStand rows old new
+    rows_stand [] old new keeps made = record {
+      after = old;
+      is = made;
+      stays = record { stays = λ path bytes stood. stood };
+      images = tt;
+      others = λ other apart. refl;
+    }
+    rows_stand (row ∷ rows) old new keeps made =
+        let row_made = made.1 in
+        let one = one_stands (From row.1) (MayLink row.1) folder row_made.file row_made.planned old made.0 row_made.made in
+        let mid = one.after in
+        let step = new_keeps old mid one.path (Some one.bytes) one.made one.free in
+        let rest = rows_stand rows mid new (keeps_then first old mid keeps step)
+        (subst (λ (held : Option Held). MakesRows From MayLink folder versions rows held new) one.is made.2) in
+        record {
+          after = rest.after;
+          is = rest.is;
+          stays = keeps_then old mid rest.after step rest.stays;
+          images = (
+            record {
               file = row_made.file;
               named = row_made.named;
-              place = subst (IsPlace folder row_made.file) same one.place;
-            })));
-      }
+              planned = row_made.planned;
+              of = row_made.of;
+              path = one.path;
+              place = one.place;
+              free = free_before first old one.path keeps one.free;
+              bytes = one.bytes;
+              image = rest.stays.stays one.path one.bytes
+                  (ap (λ (files : List ℕ → Option (List ℕ)). files one.path) one.made
+                  ∙ file_here one.path (Some one.bytes) old.bytes_at);
+              of_pick = has_later (From row.1) one.bytes mid rest.after rest.stays
+                  (has_later (From row.1) one.bytes old mid step one.of_pick);
+              is = one.kind;
+            },
+            rest.images,
+          );
+          others = λ other apart. rest.others other (λ later. apart (inr later))
+              ∙ ap (λ (files : List ℕ → Option (List ℕ)). files other) one.made
+              ∙ file_there one.path other (Some one.bytes) old.bytes_at
+              (λ same. apart (inl (record {
+                file = row_made.file;
+                named = row_made.named;
+                place = subst (IsPlace folder row_made.file) same one.place;
+              })));
+        }
 
 -- ---- all of it
 
 -- the images stand also where one more file is made
-module _ {P : Type 0} (From : P → List ℕ → Type 0) (folder : List ℕ) (versions : List Parts) (first old new : Held)
-    (keeps : KeepsAll old new) where
-  still_stand : (rows : List (PlanRecord × P)) → AllStand From folder versions rows first old
-      → AllStand From folder versions rows first new
+module _ {P : Type 0} (From MayLink : P → List ℕ → Type 0) (folder : List ℕ) (versions : List Parts)
+    (first old new : Held) (keeps : KeepsAll old new) where
+  still_stand : (rows : List (PlanRecord × P)) → AllStand From MayLink folder versions rows first old
+      → AllStand From MayLink folder versions rows first new
   still_stand [] stand = tt
   still_stand (row ∷ rows) stand = (
     record {
@@ -170,7 +175,8 @@ module _ {P : Type 0} (From : P → List ℕ → Type 0) (folder : List ℕ) (ve
       free = stand.0.free;
       bytes = stand.0.bytes;
       image = keeps.stays stand.0.path stand.0.bytes stand.0.image;
-      is = kind_later (From row.1) stand.0.planned stand.0.bytes old new keeps stand.0.is;
+      of_pick = has_later (From row.1) stand.0.bytes old new keeps stand.0.of_pick;
+      is = stand.0.is;
     },
     still_stand rows stand.1,
   )
@@ -180,23 +186,23 @@ said_by : (Holds : Held → Held → Type 0) (old after : Held) (new : Option He
 said_by Holds old after new is holds =
     subst (λ (held : Option Held). IfSaid Holds (Some old) held) (sym is) holds
 
-pub stands_whole : {P : Type 0} (From : P → List ℕ → Type 0) (folder : List ℕ) (plan : Layout) (picks : List P)
-    (old new : Option Held) → MakesFileSet From folder plan picks old new
-    → IfSaid (StandsWhole From folder plan picks) old new
-stands_whole From folder plan picks None new made = tt
-stands_whole From folder plan picks (Some old) new made =
+pub stands_whole : {P : Type 0} (From MayLink : P → List ℕ → Type 0) (folder : List ℕ) (plan : Layout)
+    (picks : List P) (old new : Option Held) → MakesFileSet From MayLink folder plan picks old new
+    → IfSaid (StandsWhole From MayLink folder plan picks) old new
+stands_whole From MayLink folder plan picks None new made = tt
+stands_whole From MayLink folder plan picks (Some old) new made =
     let rows = picked_rows plan picks in
     let same : KeepsAll old old = record { stays = λ path bytes stood. stood } in
-    let all = rows_stand From folder plan.versions old rows old made.copied same made.images in
+    let all = rows_stand From MayLink folder plan.versions old rows old made.copied same made.images in
     let text = directory_of plan.label plan.versions plan.withdrawn in
     let free = subst (λ (held : Option Held). IsFree made.path held) all.is made.free in
     let end = published made.path text all.after in
     let keeps = new_keeps all.after end made.path (Some text) refl free in
-    said_by (StandsWhole From folder plan picks) old end new
+    said_by (StandsWhole From MayLink folder plan picks) old end new
     (made.directory ∙ ap (λ (held : Option Held). option_map (published made.path text) held) all.is)
     (record {
       stays = keeps_then old all.after end all.stays keeps;
-      images = still_stand From folder plan.versions old all.after end keeps rows all.images;
+      images = still_stand From MayLink folder plan.versions old all.after end keeps rows all.images;
       path = made.path;
       place = made.place;
       free = free_before old all.after made.path all.stays free;

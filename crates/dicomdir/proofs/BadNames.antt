@@ -23,7 +23,7 @@ use Rattle.dicomdir.specs.ListedNames.{AreRising, HavePaths}
 
 -- ---- a search among the numbers
 
-before_or_past : (at count : ℕ) → (at < count) ⊎ (count ≤ at)
+pub before_or_past : (at count : ℕ) → (at < count) ⊎ (count ≤ at)
 before_or_past at zero = inr (omega arith)
 before_or_past zero (suc count) = inl (omega arith)
 before_or_past (suc at) (suc count) = elim (before_or_past at count) [

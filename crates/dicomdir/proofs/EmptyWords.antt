@@ -3,14 +3,14 @@ use Rattle.std.proofs.Common.{◌≡◌, ◌<◌, ◌∙◌, ◌⊎◌, ℕ, zer
 use Rattle.std.proofs.Common.{arith, inl, inr, string_bytes}
 use Rattle.std.specs.Borrow.{Bor}
 use Rattle.std.specs.Option.{option_map, option_map_or}
-use Rattle.dd_line.specs.Requests.{IsRequested, new_set_of, paths_of, read_of}
-use Rattle.dd_line.specs.declared.request.NewSet.{NewSet}
+use Rattle.dd_line.specs.Requests.{IsRequested, paths_of, read_of, written_of}
 use Rattle.dd_line.specs.declared.request.Request.{Request}
 use Rattle.dd_line.proofs.RequestLemmas.{says_parts}
 use Rattle.std.proofs.Common.{subst, sym}
 use Rattle.std.specs.Prelude.{Contains, IfSome}
 use Rattle.std.specs.declared.alloc.Global.{Global}
 use Rattle.std.proofs.lemmas.List.{get_or-map, length-map}
+use Rattle.std.proofs.lemmas.Option.{same_Some}
 use Rattle.clap.specs.Words.{Row, Text}
 use Rattle.dicomdir.specs.EmptyPaths.{RequestsEmptyPath, HasEmptyPath, IsEmptyAt}
 
@@ -41,20 +41,23 @@ empty_behind first paths (suc at) is =
     inr (at, record { within = omega arith; empty = is.empty })
 
 -- the folder that was looked at is the request's
-pub folder_seen : (r : Request) (seen : Option (Bor NewSet)) → new_set_of r ≡ option_map (λ s. s.now) seen
-    → IfSome seen (λ s. ¬ (string_bytes s.now.out ≡ [])) → IfSome (new_set_of r) (λ n. ¬ (string_bytes n.out ≡ []))
-folder_seen r None is folder = rw is tt
-folder_seen r (Some s) is folder = rw is folder
+pub folder_seen : (written : Option (String Global)) (seen : Option (Bor (List ℕ)))
+    → option_map (λ folder. folder.now) seen ≡ option_map string_bytes written
+    → IfSome seen (λ folder. ¬ (folder.now ≡ [])) → IfSome written (λ folder. ¬ (string_bytes folder ≡ []))
+folder_seen None seen is some = tt
+folder_seen (Some folder) None is some = absurd (cc)
+folder_seen (Some folder) (Some path) is some =
+    λ empty. some (same_Some path.now (string_bytes folder) is ∙ empty)
 
--- a request has no empty path where its new file-set has none, and none of those that it reads is empty
-pub none_empty : (r : Request) → IfSome (new_set_of r) (λ n. ¬ (string_bytes n.out ≡ []))
+-- a request has no empty path where the folder that it writes to is none, and none of those that it reads is empty
+pub none_empty : (r : Request) → IfSome (written_of r) (λ folder. ¬ (string_bytes folder ≡ []))
     → ((at : ℕ) → ¬ IsEmptyAt (read_of r) at) → RequestsEmptyPath r → ⊥
-none_empty r folder sources (at, is) = go (new_set_of r) folder is
+none_empty r folder sources (at, is) = go (written_of r) folder is
   where
-    go : (n : Option NewSet) → IfSome n (λ n. ¬ (string_bytes n.out ≡ []))
-        → IsEmptyAt (option_map_or (λ n. n.out ∷ read_of r) n (read_of r)) at → ⊥
+    go : (w : Option (String Global)) → IfSome w (λ folder. ¬ (string_bytes folder ≡ []))
+        → IsEmptyAt (option_map_or (λ folder. folder ∷ read_of r) w (read_of r)) at → ⊥
     go None folder is = sources at is
-    go (Some n) folder is = elim (empty_behind n.out (read_of r) at is) [
+    go (Some written) folder is = elim (empty_behind written (read_of r) at is) [
       | inl out ↦ folder out
       | inr later ↦ sources later.0 later.1
     ]

@@ -8,7 +8,7 @@ use Rattle.dd_engine.specs.MergeNotes.{NotesSets}
 use Rattle.dd_files.specs.Files.{Held}
 use Rattle.dicomdir.proofs.AllStanding.{stands_whole}
 use Rattle.dicomdir.specs.Indexes.{limits_of}
-use Rattle.dicomdir.specs.Made.{IsMemberPath, MakesFileSet, MayLink}
+use Rattle.dicomdir.specs.Made.{IsMemberPath, MakesFileSet}
 use Rattle.dicomdir.specs.Merges.{AreDirectories, DoneMerges, HasDirectory}
 
 -- what is so where a command has made its file-set is so where it is done
@@ -21,8 +21,7 @@ pub done_merges : {E : Type 0} (r : Result ℕ E) (choice : Choice) (bytes : ℕ
     (GivesLinks : Type 0) (folder : List ℕ) (old new : Option Held) (noted : NotedMerge)
     → AreDirectories folders sets old → NotesSets choice (limits_of bytes) given sets (Ok noted)
     → IfOk r (λ status. status ≡ 0
-    → MakesFileSet (MayLink GivesLinks (IsMemberPath folders)) folder noted.merged.plan noted.merged.picks.items old
-    new)
+    → MakesFileSet (IsMemberPath folders) (λ _ _. GivesLinks) folder noted.merged.plan noted.merged.picks.items old new)
     → DoneMerges r choice bytes given folders GivesLinks folder old new
 done_merges (Ok status) choice bytes given folders sets GivesLinks folder old new noted are h made = λ done. record {
   sets = sets;
@@ -31,7 +30,7 @@ done_merges (Ok status) choice bytes given folders sets GivesLinks folder old ne
   own = h.1;
   merged = noted.merged;
   is = h.2.0;
-  stands = stands_whole (MayLink GivesLinks (IsMemberPath folders)) folder noted.merged.plan noted.merged.picks.items
+  stands = stands_whole (IsMemberPath folders) (λ _ _. GivesLinks) folder noted.merged.plan noted.merged.picks.items
       old new (made done);
 }
 done_merges (Err refusal) choice bytes given folders sets GivesLinks folder old new noted are h made = tt

@@ -13,7 +13,7 @@ use Rattle.dicomdir.specs.ListedNames.{AreNames, FailsAt, FindsSources, HavePath
 -- ---- one source more
 
 -- an index of a list with one element more
-last_or_before : (at count : ℕ) → at < count + 1 → (at < count) ⊎ (at ≡ count)
+pub last_or_before : (at count : ℕ) → at < count + 1 → (at < count) ⊎ (at ≡ count)
 last_or_before zero zero within = inr refl
 last_or_before zero (suc count) within = inl (omega arith)
 last_or_before (suc at) zero within = absurd (omega (arith, within))

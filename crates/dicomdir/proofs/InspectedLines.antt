@@ -11,6 +11,7 @@ use Rattle.dd_line.specs.Line.{IsCheck, words_of}
 use Rattle.dd_line.specs.Requests.{IsRequested, Requests, paths_of}
 use Rattle.dd_line.specs.declared.request.Request.{Request}
 use Rattle.dd_line.specs.declared.request.Request.TheVariants.{Index as ToIndex, Merge as ToMerge, Withdraw as ToWithdraw}
+use Rattle.dd_line.specs.declared.request.Request.TheVariants.{Stage as ToStage, Publish as ToPublish}
 use Rattle.dd_line.specs.declared.request.Request.TheVariants.{Check as ToCheck, List as ToList}
 use Rattle.dd_line.proofs.RequestLemmas.{says_parts}
 use Rattle.dd_report.specs.declared.checking.Comparison.{Comparison}
@@ -36,6 +37,10 @@ module _ {R W : Type 0} (readers : ReadOf R) (writer : WriteOf W) (files : Optio
       absurd (true≢false (ap (λ (name : Text). bytes_eq name (codes "merge")) (h.verb ∙ is)))
   requested_lists (ToWithdraw x) (Some (command, given)) h is printed =
       absurd (true≢false (ap (λ (name : Text). bytes_eq name (codes "withdraw")) (h.verb ∙ is)))
+  requested_lists (ToStage x) (Some (command, given)) h is printed =
+      absurd (true≢false (ap (λ (name : Text). bytes_eq name (codes "stage")) (h.verb ∙ is)))
+  requested_lists (ToPublish x) (Some (command, given)) h is printed =
+      absurd (true≢false (ap (λ (name : Text). bytes_eq name (codes "publish")) (h.verb ∙ is)))
   requested_lists (ToCheck x) (Some (command, given)) h is printed =
       absurd (true≢false (ap (λ (name : Text). bytes_eq name (codes "check")) (h.verb ∙ is)))
   requested_lists (ToList x) (Some (command, given)) h is printed =
@@ -57,6 +62,10 @@ module _ {R W : Type 0} (readers : ReadOf R) (writer : WriteOf W) (files : Optio
       absurd (true≢false (ap (λ (name : Text). bytes_eq name (codes "merge")) (h.verb ∙ is)))
   requested_checks (ToWithdraw x) (Some (command, given)) h is printed =
       absurd (true≢false (ap (λ (name : Text). bytes_eq name (codes "withdraw")) (h.verb ∙ is)))
+  requested_checks (ToStage x) (Some (command, given)) h is printed =
+      absurd (true≢false (ap (λ (name : Text). bytes_eq name (codes "stage")) (h.verb ∙ is)))
+  requested_checks (ToPublish x) (Some (command, given)) h is printed =
+      absurd (true≢false (ap (λ (name : Text). bytes_eq name (codes "publish")) (h.verb ∙ is)))
   requested_checks (ToCheck x) (Some (command, given)) h is printed =
       subst (λ (style : Style). ChecksSet readers (first_path (Some (command, given))) files
       (comparison_in (Some (command, given))) style writer status before after old new) (ap style_by h.values.json)

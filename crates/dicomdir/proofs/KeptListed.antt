@@ -26,15 +26,18 @@ use Rattle.dd_layout.specs.Layouts.{Layout, layout_of}
 use Rattle.dd_line.specs.Line.{given_for, instance_name, out_name, set_name}
 use Rattle.dd_line.specs.Requests.{IsOnly}
 use Rattle.dd_line.specs.declared.line.Verb.{Verb}
-use Rattle.dd_line.specs.declared.line.Verb.TheVariants.{Check, Index, List as ListSet, Merge, Withdraw}
+use Rattle.dd_line.specs.declared.line.Verb.TheVariants.{Check, Index, List as ListSet, Merge, Publish, Stage, Withdraw}
 use Rattle.dd_version.specs.declared.parts.Parts.{Parts}
 use Rattle.dicomdir.proofs.SaidByFiles.{kept_of_said, said_of_kept}
+use Rattle.dicomdir.proofs.SaidByLists.{found_says, says_found}
 use Rattle.dicomdir.proofs.SaidBySets.{at_end, in_either, in_front, listed_says, named_says, says_listed, says_named}
 use Rattle.dicomdir.specs.Headline.{AreGivenFolders, LeaveOneDirectory, LeavesDirectory, ListsKept}
-use Rattle.dicomdir.specs.Headline.{Lists, Makes, Names, OneFileSays, OneSetSays, SayTheSame, SaysVersion, Withdraws}
-use Rattle.dicomdir.specs.Lines.{IndexesRows, MergesRows, WithdrawsRows, choice_of}
+use Rattle.dicomdir.specs.Headline.{Lists, Makes, Names, OneFileSays, OneListSays, OneSetSays, SayTheSame}
+use Rattle.dicomdir.specs.Headline.{SaysVersion, Withdraws, folder_for}
+use Rattle.dicomdir.specs.Lines.{IndexesRows, MergesRows, PublishesRows, WithdrawsRows, choice_of}
 use Rattle.dicomdir.specs.ListedNames.{AreSources, parts}
 use Rattle.dicomdir.specs.Made.{RealisesPlan, SaysPlan}
+use Rattle.dicomdir.specs.Publishes.{answers_in}
 use Rattle.dicomdir.specs.Standing.{StandsWhole}
 
 -- ---- the directory of what was taken
@@ -49,15 +52,16 @@ abbrev pub text_of : Choice → Contents → List ℕ
 text_of choice taken = directory (label_of choice taken) (held_of taken).versions (held_of taken).withdrawn
 
 -- the command made the directory of this
-pub record HasTaken (given : List Row) (new : Held) (taken : Contents) : Type 0 where
-  pub leaves : LeavesDirectory given (text_of (choice_of given) taken) new
+pub record HasTaken (verb : Verb) (given : List Row) (new : Held) (taken : Contents) : Type 0 where
+  pub leaves : LeavesDirectory verb given (text_of (choice_of given) taken) new
   pub visited : Realises (label_of (choice_of given) taken) (held_of taken).versions (text_of (choice_of given) taken)
   pub again : SaysItself (held_of taken).versions (held_of taken).withdrawn (text_of (choice_of given) taken)
 
-has_taken : {P : Type 0} (From : P → List ℕ → Type 0) (given : List Row) (folder : List ℕ) (plan : Layout)
-    (picks : List P) (old new : Held) (taken : Contents) → IsOnly out_name given folder
-    → plan ≡ plan_of (choice_of given) taken → StandsWhole From folder plan picks old new → HasTaken given new taken
-has_taken From given folder plan picks old new taken out is stands =
+pub has_taken : {P : Type 0} (From MayLink : P → List ℕ → Type 0) (verb : Verb) (given : List Row) (folder : List ℕ)
+    (plan : Layout) (picks : List P) (old new : Held) (taken : Contents) → IsOnly out_name given folder
+    → plan ≡ plan_of (choice_of given) taken
+    → StandsWhole From MayLink (folder_for verb given folder) plan picks old new → HasTaken verb given new taken
+has_taken From MayLink verb given folder plan picks old new taken out is stands =
     let m = (held_of taken).versions in
     let up = rising-best versions_ordered (left_of taken.versions taken.withdrawn) in
     let visited : RealisesPlan (plan_of (choice_of given) taken) = subst RealisesPlan is stands.visited in
@@ -95,22 +99,24 @@ pub record IsTaken (verb : Verb) (given : List Row) (old : Held) (taken : Conten
 pub record Takes (verb : Verb) (given : List Row) (old new : Held) : Type 0 where
   pub taken : Contents
   pub is : IsTaken verb given old taken
-  pub has : HasTaken given new taken
+  pub has : HasTaken verb given new taken
 
 -- nothing is withdrawn
-all_left : (s : List Parts) → left_of s [] ≡ s
+pub all_left : (s : List Parts) → left_of s [] ≡ s
 all_left [] = refl
 all_left (version ∷ s) = ap (λ (l : List Parts). version ∷ l) (all_left s)
+
+nothing_withdrawn : (choice : Choice) (plan : Layout) (s : List Parts)
+    → plan ≡ layout_of (label_for choice (best_of s) []) (best_of s) []
+    → plan ≡ plan_of choice (record { versions = s; withdrawn = [] })
+nothing_withdrawn choice plan s is =
+    is ∙ ap (λ (l : List Parts). layout_of (label_for choice (best_of l) []) (best_of l) []) (sym (all_left s))
 
 index_takes : (given : List Row) (old new : Held) → IndexesRows given 0 (Some old) (Some new)
     → Takes Index given old new
 index_takes given old new made =
     let mk = made.made in
     let s = versions_of (accepted (answers_of mk.readings)) in
-    let choice = choice_of given in
-    let plan : mk.indexed.plan ≡ plan_of choice (record { versions = s; withdrawn = [] }) =
-    mk.is.plan
-    ∙ ap (λ (l : List Parts). layout_of (label_for choice (best_of l) []) (best_of l) []) (sym (all_left s)) in
     record {
       taken = record { versions = s; withdrawn = [] };
       is = record {
@@ -127,8 +133,34 @@ index_takes given old new made =
         );
         withdrawn = λ uid. (λ none. member_of uid [] none, λ says. absurd says);
       };
-      has = has_taken _ given made.folder mk.indexed.plan mk.indexed.picks.items old new
-          (record { versions = s; withdrawn = [] }) made.new_set.out plan mk.stands;
+      has = has_taken _ _ Index given made.folder mk.indexed.plan mk.indexed.picks.items old new
+          (record { versions = s; withdrawn = [] }) made.new_set.out
+          (nothing_withdrawn (choice_of given) mk.indexed.plan s mk.is.plan) mk.stands;
+    }
+
+publish_takes : (given : List Row) (old new : Held) → PublishesRows given (Some old) (Some new)
+    → Takes Publish given old new
+publish_takes given old new made =
+    let mk = made.made in
+    let s = versions_of (accepted (answers_in mk.lists)) in
+    record {
+      taken = record { versions = s; withdrawn = [] };
+      is = record {
+        versions = λ version. (
+          λ kept. (
+            made.piles,
+            made.are,
+            found_says old version made.piles mk.lists mk.are (member_of version s kept),
+          ),
+          λ says. contained version s (says_found old version made.piles mk.lists mk.are
+              (subst (λ (piles : List Text). OneListSays piles old version)
+              (one_list _ _ _ says.0 made.piles old says.1 made.are) says.2)),
+        );
+        withdrawn = λ uid. (λ none. member_of uid [] none, λ says. absurd says);
+      };
+      has = has_taken _ _ Publish given made.folder mk.indexed.plan mk.indexed.picks.items old new
+          (record { versions = s; withdrawn = [] }) made.new_set.out
+          (nothing_withdrawn (choice_of given) mk.indexed.plan s mk.is.plan) mk.stands;
     }
 
 merge_takes : (given : List Row) (old new : Held) → MergesRows given (Some old) (Some new) → Takes Merge given old new
@@ -160,7 +192,7 @@ merge_takes given old new made =
               (subst (λ (folders : List Text). OneSetSays folders old (Names uid)) (same says.0 says.1) says.2)),
         );
       };
-      has = has_taken _ given made.folder mk.merged.plan mk.merged.picks.items old new
+      has = has_taken _ _ Merge given made.folder mk.merged.plan mk.merged.picks.items old new
           (record { versions = s; withdrawn = w }) made.new_set.out mk.is.plan mk.stands;
     }
 
@@ -190,7 +222,7 @@ withdraw_takes given old new made =
           ]),
         );
       };
-      has = has_taken _ given made.folder mk.merged.plan mk.merged.picks.items old new
+      has = has_taken _ _ Withdraw given made.folder mk.merged.plan mk.merged.picks.items old new
           (record { versions = s; withdrawn = uids ++ w }) made.new_set.out mk.is.plan mk.stands;
     }
 
@@ -198,6 +230,8 @@ pub takes : (verb : Verb) (given : List Row) (old new : Held) → Makes verb giv
 takes Index given old new made = index_takes given old new made
 takes Merge given old new made = merge_takes given old new made
 takes Withdraw given old new made = withdraw_takes given old new made
+takes Publish given old new made = publish_takes given old new made
+takes Stage given old new made = absurd made
 takes Check given old new made = absurd made
 takes ListSet given old new made = absurd made
 
@@ -233,7 +267,7 @@ same_held one two versions withdrawn = same_contents (held_of one) (held_of two)
 
 pub one_directory : (verb other : Verb) (given others : List Row) (old new first last : Held)
     → Makes verb given old new → Makes other others first last → choice_of given ≡ choice_of others
-    → SayTheSame verb other given others old first → LeaveOneDirectory given others new last
+    → SayTheSame verb other given others old first → LeaveOneDirectory verb other given others new last
 one_directory verb other given others old new first last made also choice same =
     let one = takes verb given old new made in
     let two = takes other others first last also in
@@ -246,5 +280,5 @@ one_directory verb other given others old new first last made also choice same =
     (sym choice) (sym (same_held one.taken two.taken versions withdrawn)) in (
       text_of (choice_of given) one.taken,
       one.has.leaves,
-      subst (λ (bytes : List ℕ). LeavesDirectory others bytes last) texts two.has.leaves,
+      subst (λ (bytes : List ℕ). LeavesDirectory other others bytes last) texts two.has.leaves,
     )

@@ -1,22 +1,30 @@
 -- What a request makes is what the words of its line say.
 use Rattle.std.proofs.Common.{◌≡◌, ◌≢◌, ◌≤◌, ◌∙◌, ℕ, List, Option, None, Some, Result, Ok, Err, IfOk, arith, inl, inr}
-use Rattle.std.proofs.Common.{[], ◌∷◌, ap, false, get_or, string_bytes, true}
-use Rattle.std.specs.Prelude.{option_map}
-use Rattle.clap.specs.Words.{Row, Text}
+use Rattle.std.proofs.Common.{[], ◌∷◌, Bool, String, ap, ap₂, false, get_or, refl, string_bytes, subst, true}
+use Rattle.std.specs.Prelude.{option_map, unwrap_or}
+use Rattle.std.specs.declared.alloc.Global.{Global}
+use Rattle.clap.specs.Takes.{is_given}
+use Rattle.clap.specs.Words.{Row, Text, first_of}
+use Rattle.dd_elem.specs.declared.device.Write.{Ghosts as WriteOf}
 use Rattle.dd_engine.specs.declared.choice.Choice.{Choice}
 use Rattle.dd_files.specs.Files.{Held}
-use Rattle.dd_line.specs.Line.{verb_name, words_of}
+use Rattle.dd_line.specs.Line.{files0_from_name, from_name, json_name, verb_name, words_of}
 use Rattle.dd_line.specs.Requests.{IsRequested, id_of, instances_of, uid_of}
 use Rattle.dd_line.specs.declared.line.Verb.TheVariants as verbs
 use Rattle.dd_line.specs.declared.request.Request.{Request}
-use Rattle.dd_line.specs.declared.request.Request.TheVariants.{Index, Merge, Withdraw, Check, List as ListSet}
+use Rattle.dd_line.specs.declared.request.Request.TheVariants.{Check, Index, List as ListSet, Merge, Publish, Stage, Withdraw}
+use Rattle.dicomdir.specs.From.{from_text, looked_up, looked_up_list}
 use Rattle.dicomdir.specs.Indexes.{DoneIndexes, MakesIndex}
 use Rattle.dicomdir.specs.ListedNames.{AreSources}
-use Rattle.dicomdir.specs.Lines.{IndexesLine, IsIndex, IsMerge, IsWithdraw, MergesLine, WithdrawsLine}
+use Rattle.dicomdir.specs.Inspecting.{style_by}
+use Rattle.dicomdir.specs.Lines.{IndexesLine, IsIndex, IsMerge, IsPublish, IsStage, IsWithdraw, MergesLine}
+use Rattle.dicomdir.specs.Lines.{PublishesLine, StagesLine, WithdrawsLine, list_in}
 use Rattle.dicomdir.specs.Made.{IsDone}
 use Rattle.dicomdir.specs.Merges.{DoneMerges, MakesMerge}
 use Rattle.dicomdir.specs.Names.{choice_by}
-use Rattle.dicomdir.specs.Words.{MakesRequested}
+use Rattle.dicomdir.specs.Publishes.{DonePublishes, MakesPublish}
+use Rattle.dicomdir.specs.Stages.{Stages}
+use Rattle.dicomdir.specs.Words.{MakesRequested, StagesRequested}
 
 -- ---- a command that is done
 
@@ -41,6 +49,14 @@ pub merge_done : {E : Type 0} (r : Result ℕ E) (choice : Choice) (bytes : ℕ)
 merge_done (Ok status) choice bytes given folders GivesLinks folder old new few made =
     λ done. made (zero_of_two status few done)
 merge_done (Err refusal) choice bytes given folders GivesLinks folder old new few made = tt
+
+pub publish_done : {E : Type 0} (r : Result ℕ E) (choice : Choice) (bytes : ℕ) (piles : List (List ℕ))
+    (GivesLinks : Type 0) (folder : List ℕ) (old new : Option Held) → IfOk r (λ status. status ≤ 1)
+    → DonePublishes r choice bytes piles GivesLinks folder old new
+    → IfOk r (λ status. IsDone status → MakesPublish choice bytes piles GivesLinks folder old new)
+publish_done (Ok status) choice bytes piles GivesLinks folder old new few made =
+    λ done. made (zero_of_two status few done)
+publish_done (Err refusal) choice bytes piles GivesLinks folder old new few made = tt
 
 -- ---- by the words of its line
 
@@ -74,6 +90,10 @@ given_index (Merge x) (Some (command, given)) status old new h names made =
     unlike (verb_name verbs.Merge) (verb_name verbs.Index) (h.verb ∙ names) (λ (e : 109 ≡ 105). omega (arith, e))
 given_index (Withdraw x) (Some (command, given)) status old new h names made =
     unlike (verb_name verbs.Withdraw) (verb_name verbs.Index) (h.verb ∙ names) (λ (e : 119 ≡ 105). omega (arith, e))
+given_index (Stage x) (Some (command, given)) status old new h names made =
+    unlike (verb_name verbs.Stage) (verb_name verbs.Index) (h.verb ∙ names) (λ (e : 115 ≡ 105). omega (arith, e))
+given_index (Publish x) (Some (command, given)) status old new h names made =
+    unlike (verb_name verbs.Publish) (verb_name verbs.Index) (h.verb ∙ names) (λ (e : 112 ≡ 105). omega (arith, e))
 given_index (Check x) (Some (command, given)) status old new h names made =
     unlike (verb_name verbs.Check) (verb_name verbs.Index) (h.verb ∙ names) (λ (e : 99 ≡ 105). omega (arith, e))
 given_index (ListSet x) (Some (command, given)) status old new h names made =
@@ -100,6 +120,10 @@ given_merge (Index x) (Some (command, given)) status old new h names made =
     unlike (verb_name verbs.Index) (verb_name verbs.Merge) (h.verb ∙ names) (λ (e : 105 ≡ 109). omega (arith, e))
 given_merge (Withdraw x) (Some (command, given)) status old new h names made =
     unlike (verb_name verbs.Withdraw) (verb_name verbs.Merge) (h.verb ∙ names) (λ (e : 119 ≡ 109). omega (arith, e))
+given_merge (Stage x) (Some (command, given)) status old new h names made =
+    unlike (verb_name verbs.Stage) (verb_name verbs.Merge) (h.verb ∙ names) (λ (e : 115 ≡ 109). omega (arith, e))
+given_merge (Publish x) (Some (command, given)) status old new h names made =
+    unlike (verb_name verbs.Publish) (verb_name verbs.Merge) (h.verb ∙ names) (λ (e : 112 ≡ 109). omega (arith, e))
 given_merge (Check x) (Some (command, given)) status old new h names made =
     unlike (verb_name verbs.Check) (verb_name verbs.Merge) (h.verb ∙ names) (λ (e : 99 ≡ 109). omega (arith, e))
 given_merge (ListSet x) (Some (command, given)) status old new h names made =
@@ -123,7 +147,114 @@ given_withdraw (Index x) (Some (command, given)) status old new h names made =
     unlike (verb_name verbs.Index) (verb_name verbs.Withdraw) (h.verb ∙ names) (λ (e : 105 ≡ 119). omega (arith, e))
 given_withdraw (Merge x) (Some (command, given)) status old new h names made =
     unlike (verb_name verbs.Merge) (verb_name verbs.Withdraw) (h.verb ∙ names) (λ (e : 109 ≡ 119). omega (arith, e))
+given_withdraw (Stage x) (Some (command, given)) status old new h names made =
+    unlike (verb_name verbs.Stage) (verb_name verbs.Withdraw) (h.verb ∙ names) (λ (e : 115 ≡ 119). omega (arith, e))
+given_withdraw (Publish x) (Some (command, given)) status old new h names made =
+    unlike (verb_name verbs.Publish) (verb_name verbs.Withdraw) (h.verb ∙ names) (λ (e : 112 ≡ 119). omega (arith, e))
 given_withdraw (Check x) (Some (command, given)) status old new h names made =
     unlike (verb_name verbs.Check) (verb_name verbs.Withdraw) (h.verb ∙ names) (λ (e : 99 ≡ 119). omega (arith, e))
 given_withdraw (ListSet x) (Some (command, given)) status old new h names made =
     unlike (verb_name verbs.List) (verb_name verbs.Withdraw) (h.verb ∙ names) (λ (e : 108 ≡ 119). omega (arith, e))
+
+-- ---- where a path of the line is looked up
+
+-- the folder that a line gives
+pub from_is : (from : Option (String Global)) (given : Option Text) → option_map string_bytes from ≡ given
+    → from_text from ≡ unwrap_or given []
+from_is from given is = subst (λ (text : Option Text). from_text from ≡ unwrap_or text []) is (go from)
+  where
+    go : (o : Option (String Global)) → from_text o ≡ unwrap_or (option_map string_bytes o) []
+    go None = refl
+    go (Some text) = refl
+
+list_looked : (from : Text) (list : Option (String Global))
+    → option_map (λ (name : String Global). looked_up_list from (string_bytes name)) list
+    ≡ option_map (looked_up_list from) (option_map string_bytes list)
+list_looked from None = refl
+list_looked from (Some name) = refl
+
+-- the list of names
+pub list_is : (from list : Option (String Global)) (given : List Row)
+    → option_map string_bytes from ≡ first_of from_name given
+    → option_map string_bytes list ≡ first_of files0_from_name given
+    → option_map (λ (name : String Global). looked_up_list (from_text from) (string_bytes name)) list ≡ list_in given
+list_is from list given from_given list_given =
+    list_looked (from_text from) list
+    ∙ ap₂ (λ (folder : Text) (name : Option Text). option_map (looked_up_list folder) name)
+    (from_is from (first_of from_name given) from_given) list_given
+
+pub sources_as : (keeps_going : Bool) (list other : Option Text) (words others : List Text) (files : Option Held)
+    (all : List Text) → list ≡ other → words ≡ others → AreSources keeps_going list words files all
+    → AreSources keeps_going other others files all
+sources_as keeps_going list other words others files all same_list same_words are =
+    subst (λ (xs : List Text). AreSources keeps_going other xs files all) same_words
+    (subst (λ (path : Option Text). AreSources keeps_going path words files all) same_list are)
+
+-- ---- piles
+
+pub given_publish : (r : Request) (found : Option (Text × List Row)) (status : ℕ) (old new : Option Held)
+    → IsRequested r found → IsPublish found → MakesAsked r status old new → PublishesLine found old new
+given_publish r None status old new h names made = absurd h
+given_publish (Publish x) (Some (command, given)) status old new h names made =
+    let new_set = h.values.new_set in
+    let from = from_is x.from (first_of from_name given) h.values.from in
+    let out = string_bytes x.new_set.out in
+    let makes : MakesPublish (choice_by (option_map string_bytes x.new_set.id) (option_map string_bytes x.new_set.uid))
+    x.new_set.max_bytes made.sources (x.link ≡ true) (looked_up (from_text x.from) out) old new = made.made in
+    record {
+      folder = out;
+      bytes = x.new_set.max_bytes;
+      new_set = record { out = new_set.out; limit = new_set.max_bytes };
+      piles = made.sources;
+      are = sources_as false _ _ _ _ old made.sources (list_is x.from x.piles.files0_from given h.values.from
+          h.values.piles.files0_from) h.values.piles.words made.are;
+      made = rw (new_set.id, new_set.uid, h.values.link, from) at makes;
+    }
+given_publish (Index x) (Some (command, given)) status old new h names made =
+    unlike (verb_name verbs.Index) (verb_name verbs.Publish) (h.verb ∙ names) (λ (e : 105 ≡ 112). omega (arith, e))
+given_publish (Merge x) (Some (command, given)) status old new h names made =
+    unlike (verb_name verbs.Merge) (verb_name verbs.Publish) (h.verb ∙ names) (λ (e : 109 ≡ 112). omega (arith, e))
+given_publish (Withdraw x) (Some (command, given)) status old new h names made =
+    unlike (verb_name verbs.Withdraw) (verb_name verbs.Publish) (h.verb ∙ names) (λ (e : 119 ≡ 112). omega (arith, e))
+given_publish (Stage x) (Some (command, given)) status old new h names made =
+    unlike (verb_name verbs.Stage) (verb_name verbs.Publish) (h.verb ∙ names) (λ (e : 115 ≡ 112). omega (arith, e))
+given_publish (Check x) (Some (command, given)) status old new h names made =
+    unlike (verb_name verbs.Check) (verb_name verbs.Publish) (h.verb ∙ names) (λ (e : 99 ≡ 112). omega (arith, e))
+given_publish (ListSet x) (Some (command, given)) status old new h names made =
+    unlike (verb_name verbs.List) (verb_name verbs.Publish) (h.verb ∙ names) (λ (e : 108 ≡ 112). omega (arith, e))
+
+staged_as : {W : Type 0} (writer : WriteOf W) (pile : Text) (names : List Text) (files made : Option Held)
+    (old new : W) (json other_json : Bool) (from other : Text) → json ≡ other_json → from ≡ other
+    → Stages writer (style_by json) from pile names files made old new
+    → Stages writer (style_by other_json) other pile names files made old new
+staged_as writer pile names files made old new json other_json from other same_json same staged =
+    subst (λ (is : Bool). Stages writer (style_by is) other pile names files made old new) same_json
+    (subst (λ (folder : Text). Stages writer (style_by json) folder pile names files made old new) same staged)
+
+pub given_stage : {W : Type 0} (writer : WriteOf W) (r : Request) (found : Option (Text × List Row))
+    (files made : Option Held) (old new : W) → IsRequested r found → IsStage found
+    → StagesRequested writer r files made old new → StagesLine writer found files made old new
+given_stage writer r None files made old new h names staged = absurd h
+given_stage writer (Stage x) (Some (command, given)) files made old new h names staged =
+    let from = from_is x.from (first_of from_name given) h.values.from in
+    record {
+      pile = string_bytes x.pile;
+      place = h.values.pile;
+      names = staged.names;
+      are = sources_as false _ _ _ _ files staged.names (list_is x.from x.sources.files0_from given h.values.from
+          h.values.sources.files0_from) h.values.sources.words staged.are;
+      staged = staged_as writer (string_bytes x.pile) staged.names files made old new x.json (is_given json_name given)
+          _ _ h.values.json from staged.staged;
+    }
+given_stage writer (Index x) (Some (command, given)) files made old new h names staged =
+    unlike (verb_name verbs.Index) (verb_name verbs.Stage) (h.verb ∙ names) (λ (e : 105 ≡ 115). omega (arith, e))
+given_stage writer (Merge x) (Some (command, given)) files made old new h names staged =
+    unlike (verb_name verbs.Merge) (verb_name verbs.Stage) (h.verb ∙ names) (λ (e : 109 ≡ 115). omega (arith, e))
+given_stage writer (Withdraw x) (Some (command, given)) files made old new h names staged =
+    unlike (verb_name verbs.Withdraw) (verb_name verbs.Stage) (h.verb ∙ names) (λ (e : 119 ≡ 115). omega (arith, e))
+given_stage writer (Publish x) (Some (command, given)) files made old new h names staged =
+    unlike (verb_name verbs.Publish) (verb_name verbs.Stage) (h.verb ∙ names) (λ (e : 112 ≡ 115). omega (arith, e))
+given_stage writer (Check x) (Some (command, given)) files made old new h names staged =
+    unlike (verb_name verbs.Check) (verb_name verbs.Stage) (h.verb ∙ names) (λ (e : 99 ≡ 115). omega (arith, e))
+given_stage writer (ListSet x) (Some (command, given)) files made old new h names staged =
+    unlike (verb_name verbs.List) (verb_name verbs.Stage) (h.verb ∙ names) (λ (e : 108 ≡ 115). omega (arith, e))

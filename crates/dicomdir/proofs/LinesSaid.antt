@@ -14,17 +14,19 @@ use Rattle.dd_line.specs.Requests.{IsRequested, Requests, id_of, instances_of, u
 use Rattle.dd_line.specs.declared.line.Verb.TheVariants as verbs
 use Rattle.dd_line.specs.declared.request.IndexRequest.{IndexRequest}
 use Rattle.dd_line.specs.declared.request.MergeRequest.{MergeRequest}
+use Rattle.dd_line.specs.declared.request.PublishRequest.{PublishRequest}
 use Rattle.dd_line.specs.declared.request.Request.{Request}
-use Rattle.dd_line.specs.declared.request.Request.TheVariants.{Index, Merge, Withdraw, Check, List as ListSet}
+use Rattle.dd_line.specs.declared.request.Request.TheVariants.{Check, Index, List as ListSet, Merge, Publish, Stage, Withdraw}
 use Rattle.dd_line.specs.declared.request.WithdrawRequest.{WithdrawRequest}
-use Rattle.dicomdir.proofs.LinesMade.{unlike, unlike_one, zero_of_two}
+use Rattle.dicomdir.proofs.LinesMade.{list_is, sources_as, unlike, unlike_one, zero_of_two}
 use Rattle.dicomdir.specs.Inspecting.{style_by}
 use Rattle.dicomdir.specs.ListedNames.{AreSources}
-use Rattle.dicomdir.specs.Lines.{IndexSays, IsIndex, IsMerge, IsWithdraw, MergeSays, SaysOfSet, SaysOfSets}
-use Rattle.dicomdir.specs.Lines.{SaysOfSources, WithdrawSays, choice_of}
+use Rattle.dicomdir.specs.Lines.{IndexSays, IsIndex, IsMerge, IsPublish, IsWithdraw, MergeSays, PublishSays}
+use Rattle.dicomdir.specs.Lines.{SaysOfPiles, SaysOfSet, SaysOfSets, SaysOfSources, WithdrawSays, choice_of}
 use Rattle.dicomdir.specs.Made.{IsDone}
 use Rattle.dicomdir.specs.Names.{choice_by}
 use Rattle.dicomdir.specs.Prints.{PrintsIndex, PrintsMerge}
+use Rattle.dicomdir.specs.Publishes.{PrintsPublish}
 use Rattle.dicomdir.specs.Words.{SaysRequested}
 
 -- ---- a command that is done
@@ -49,6 +51,15 @@ pub merge_said : {E W : Type 0} (writer : WriteOf W) (r : Result ℕ E) (style :
 merge_said writer (Ok status) style is_dry is_strict choice bytes given folders files old new few said =
     λ done. said (zero_of_two status few done)
 merge_said writer (Err refusal) style is_dry is_strict choice bytes given folders files old new few said = tt
+
+pub publish_said : {E W : Type 0} (writer : WriteOf W) (r : Result ℕ E) (style : Style) (is_dry is_strict : Bool)
+    (choice : Choice) (bytes : ℕ) (piles : List (List ℕ)) (files : Option Held) (old new : W)
+    → IfOk r (λ status. status ≤ 1)
+    → IfOk r (λ status. status ≡ 0 → PrintsPublish writer style is_dry is_strict choice bytes piles files old new)
+    → IfOk r (λ status. IsDone status → PrintsPublish writer style is_dry is_strict choice bytes piles files old new)
+publish_said writer (Ok status) style is_dry is_strict choice bytes piles files old new few said =
+    λ done. said (zero_of_two status few done)
+publish_said writer (Err refusal) style is_dry is_strict choice bytes piles files old new few said = tt
 
 -- ---- the same flags and label
 
@@ -86,6 +97,20 @@ module _ {W : Type 0} (writer : WriteOf W) (bytes : ℕ) (files : Option Held) (
       same_strict
       (subst (λ (label : Choice). PrintsMerge writer (style_by json) dry strict label bytes given folders files old new)
       same said)))
+
+  publish_as : (piles : List Text) (json dry strict other_json other_dry other_strict : Bool)
+      (choice other : Choice) → json ≡ other_json → dry ≡ other_dry → strict ≡ other_strict → choice ≡ other
+      → PrintsPublish writer (style_by json) dry strict choice bytes piles files old new
+      → PrintsPublish writer (style_by other_json) other_dry other_strict other bytes piles files old new
+  publish_as piles json dry strict other_json other_dry other_strict choice other same_json same_dry same_strict same
+      said =
+      subst (λ (is : Bool). PrintsPublish writer (style_by is) other_dry other_strict other bytes piles files old new)
+      same_json
+      (subst (λ (is : Bool). PrintsPublish writer (style_by json) is other_strict other bytes piles files old new)
+      same_dry
+      (subst (λ (is : Bool). PrintsPublish writer (style_by json) dry is other bytes piles files old new) same_strict
+      (subst (λ (label : Choice). PrintsPublish writer (style_by json) dry strict label bytes piles files old new) same
+      said)))
 
 -- ---- by the words of its line
 
@@ -160,6 +185,10 @@ index_says writer (Merge x) (Some (command, given)) status files old new h names
     unlike (verb_name verbs.Merge) (verb_name verbs.Index) (h.verb ∙ names) (λ (e : 109 ≡ 105). omega (arith, e))
 index_says writer (Withdraw x) (Some (command, given)) status files old new h names said =
     unlike (verb_name verbs.Withdraw) (verb_name verbs.Index) (h.verb ∙ names) (λ (e : 119 ≡ 105). omega (arith, e))
+index_says writer (Stage x) (Some (command, given)) status files old new h names said =
+    unlike (verb_name verbs.Stage) (verb_name verbs.Index) (h.verb ∙ names) (λ (e : 115 ≡ 105). omega (arith, e))
+index_says writer (Publish x) (Some (command, given)) status files old new h names said =
+    unlike (verb_name verbs.Publish) (verb_name verbs.Index) (h.verb ∙ names) (λ (e : 112 ≡ 105). omega (arith, e))
 index_says writer (Check x) (Some (command, given)) status files old new h names said =
     unlike (verb_name verbs.Check) (verb_name verbs.Index) (h.verb ∙ names) (λ (e : 99 ≡ 105). omega (arith, e))
 index_says writer (ListSet x) (Some (command, given)) status files old new h names said =
@@ -175,6 +204,10 @@ merge_says writer (Index x) (Some (command, given)) status files old new h names
     unlike (verb_name verbs.Index) (verb_name verbs.Merge) (h.verb ∙ names) (λ (e : 105 ≡ 109). omega (arith, e))
 merge_says writer (Withdraw x) (Some (command, given)) status files old new h names said =
     unlike (verb_name verbs.Withdraw) (verb_name verbs.Merge) (h.verb ∙ names) (λ (e : 119 ≡ 109). omega (arith, e))
+merge_says writer (Stage x) (Some (command, given)) status files old new h names said =
+    unlike (verb_name verbs.Stage) (verb_name verbs.Merge) (h.verb ∙ names) (λ (e : 115 ≡ 109). omega (arith, e))
+merge_says writer (Publish x) (Some (command, given)) status files old new h names said =
+    unlike (verb_name verbs.Publish) (verb_name verbs.Merge) (h.verb ∙ names) (λ (e : 112 ≡ 109). omega (arith, e))
 merge_says writer (Check x) (Some (command, given)) status files old new h names said =
     unlike (verb_name verbs.Check) (verb_name verbs.Merge) (h.verb ∙ names) (λ (e : 99 ≡ 109). omega (arith, e))
 merge_says writer (ListSet x) (Some (command, given)) status files old new h names said =
@@ -190,7 +223,47 @@ withdraw_says writer (Index x) (Some (command, given)) status files old new h na
     unlike (verb_name verbs.Index) (verb_name verbs.Withdraw) (h.verb ∙ names) (λ (e : 105 ≡ 119). omega (arith, e))
 withdraw_says writer (Merge x) (Some (command, given)) status files old new h names said =
     unlike (verb_name verbs.Merge) (verb_name verbs.Withdraw) (h.verb ∙ names) (λ (e : 109 ≡ 119). omega (arith, e))
+withdraw_says writer (Stage x) (Some (command, given)) status files old new h names said =
+    unlike (verb_name verbs.Stage) (verb_name verbs.Withdraw) (h.verb ∙ names) (λ (e : 115 ≡ 119). omega (arith, e))
+withdraw_says writer (Publish x) (Some (command, given)) status files old new h names said =
+    unlike (verb_name verbs.Publish) (verb_name verbs.Withdraw) (h.verb ∙ names) (λ (e : 112 ≡ 119). omega (arith, e))
 withdraw_says writer (Check x) (Some (command, given)) status files old new h names said =
     unlike (verb_name verbs.Check) (verb_name verbs.Withdraw) (h.verb ∙ names) (λ (e : 99 ≡ 119). omega (arith, e))
 withdraw_says writer (ListSet x) (Some (command, given)) status files old new h names said =
     unlike (verb_name verbs.List) (verb_name verbs.Withdraw) (h.verb ∙ names) (λ (e : 108 ≡ 119). omega (arith, e))
+
+says_of_piles : {W : Type 0} (writer : WriteOf W) (x : PublishRequest) (command : Text) (given : List Row) (status : ℕ)
+    (files : Option Held) (old new : W) → Requests (Publish x) command given
+    → SaysAsked writer (Publish x) status files old new → SaysOfPiles writer given files old new
+says_of_piles writer x command given status files old new h said =
+    let new_set = h.values.new_set in
+    record {
+      bytes = x.new_set.max_bytes;
+      limit = new_set.max_bytes;
+      piles = said.sources;
+      are = sources_as false _ _ _ _ files said.sources (list_is x.from x.piles.files0_from given h.values.from
+          h.values.piles.files0_from) h.values.piles.words said.are;
+      says = publish_as writer x.new_set.max_bytes files old new said.sources x.new_set.json x.new_set.dry_run
+          x.new_set.strict (is_given json_name given) (is_given dry_run_name given) (is_given strict_name given) _
+          (choice_of given) new_set.json new_set.dry_run new_set.strict (ap₂ choice_by new_set.id new_set.uid)
+          said.says;
+    }
+
+pub publish_says : {W : Type 0} (writer : WriteOf W) (r : Request) (found : Option (Text × List Row)) (status : ℕ)
+    (files : Option Held) (old new : W) → IsRequested r found → IsPublish found
+    → SaysAsked writer r status files old new → PublishSays writer found files old new
+publish_says writer r None status files old new h names said = absurd h
+publish_says writer (Publish x) (Some (command, given)) status files old new h names said =
+    says_of_piles writer x command given status files old new h said
+publish_says writer (Index x) (Some (command, given)) status files old new h names said =
+    unlike (verb_name verbs.Index) (verb_name verbs.Publish) (h.verb ∙ names) (λ (e : 105 ≡ 112). omega (arith, e))
+publish_says writer (Merge x) (Some (command, given)) status files old new h names said =
+    unlike (verb_name verbs.Merge) (verb_name verbs.Publish) (h.verb ∙ names) (λ (e : 109 ≡ 112). omega (arith, e))
+publish_says writer (Withdraw x) (Some (command, given)) status files old new h names said =
+    unlike (verb_name verbs.Withdraw) (verb_name verbs.Publish) (h.verb ∙ names) (λ (e : 119 ≡ 112). omega (arith, e))
+publish_says writer (Stage x) (Some (command, given)) status files old new h names said =
+    unlike (verb_name verbs.Stage) (verb_name verbs.Publish) (h.verb ∙ names) (λ (e : 115 ≡ 112). omega (arith, e))
+publish_says writer (Check x) (Some (command, given)) status files old new h names said =
+    unlike (verb_name verbs.Check) (verb_name verbs.Publish) (h.verb ∙ names) (λ (e : 99 ≡ 112). omega (arith, e))
+publish_says writer (ListSet x) (Some (command, given)) status files old new h names said =
+    unlike (verb_name verbs.List) (verb_name verbs.Publish) (h.verb ∙ names) (λ (e : 108 ≡ 112). omega (arith, e))

@@ -9,7 +9,10 @@ use Rattle.dd_engine.specs.declared.noted_index.NotedIndex.{NotedIndex}
 use Rattle.dd_engine.specs.declared.engine_fault.EngineFault.TheVariants as faults
 use Rattle.dd_engine.specs.Indexed.{IsIndexed}
 use Rattle.dd_engine.specs.IndexNotes.{NotesIndex}
-use Rattle.dd_engine.specs.Indexing.{Answer, skipped_from}
+use Rattle.dd_catalogue.specs.Harmony.{harmonised}
+use Rattle.dd_engine.specs.Choosing.{label_for}
+use Rattle.dd_engine.specs.Indexing.{Answer, accepted, best_of_sources, skipped_from}
+use Rattle.dd_layout.specs.Plans.{records_of}
 use Rattle.dd_engine.specs.declared.past_failures.PastFailures.{PastFailures}
 use Rattle.dd_engine.specs.declared.supply.Supply.{Ghosts as SupplyOf}
 use Rattle.dd_engine.specs.PastFailures.{AreReadings, IsReading, NotesPast, Reading, answers_of}
@@ -22,10 +25,11 @@ use Rattle.dicomdir.specs.FileSupply.{contents_by}
 use Rattle.dicomdir.specs.ListedNames.{HavePaths}
 use Rattle.dicomdir.proofs.BadNames.{answers_name}
 use Rattle.dicomdir.proofs.AllStanding.{stands_whole}
-use Rattle.dicomdir.proofs.Unlinked.{copied_by}
+use Rattle.dicomdir.proofs.PickedSources.{picks_named}
+use Rattle.dicomdir.proofs.Unlinked.{set_by}
 use Rattle.dicomdir.specs.Indexes.{AnswersName, AreRead, Indexes, IsIndexStatus, IsRead, MakesIndex, NoneFailed, has_failed, is_unread}
 use Rattle.dicomdir.specs.Indexes.{limits_of, most_of_source, status_past}
-use Rattle.dicomdir.specs.Made.{IsPathAt, MakesFileSet, MayLink}
+use Rattle.dicomdir.specs.Made.{IsPathAt, MakesFileSet}
 
 -- ---- readings of either kind
 
@@ -198,20 +202,26 @@ module _ (choice : Choice) (bytes : ℕ) (sources : List (List ℕ)) (old : Opti
   index_status false zero least h = rw (skips_none h.readings h.read h.notes.0 (h.all refl)) (inl (omega arith))
 
   -- the index is done where it has made its file-set
-  pub done_index : (keeps_going : Bool) (made : ℕ) (paths : List (List ℕ)) (folder : List ℕ) (new : Option Held)
-      → made ≤ 1 → Indexes keeps_going choice bytes sources old noted
-      → MakesFileSet (MayLink ⊥ (IsPathAt paths)) folder indexed.plan indexed.picks.items old new
+  pub done_index : (keeps_going : Bool) (made : ℕ) (paths : List (List ℕ)) (bad : List ℕ) (folder : List ℕ)
+      (new : Option Held) → made ≤ 1 → HavePaths sources paths bad
+      → Indexes keeps_going choice bytes sources old noted
+      → MakesFileSet (IsPathAt paths) (λ _ _. ⊥) folder indexed.plan indexed.picks.items old new
       → status_past made indexed.skipped.items ≢ 1
       → MakesIndex choice bytes sources folder (status_past made indexed.skipped.items) old new
-  done_index keeps_going (suc made) paths folder new least h set done = absurd (done (omega (arith, least)))
-  done_index keeps_going zero paths folder new least h set done = record {
+  done_index keeps_going (suc made) paths bad folder new least have h set done = absurd (done (omega (arith, least)))
+  done_index keeps_going zero paths bad folder new least have h set done = record {
     readings = h.readings;
     read = h.read;
     all = none_exactly h.readings h.read h.notes.0;
     indexed = indexed;
     is = h.notes.0;
-    stands = stands_whole (MayLink ⊥ (IsPathAt sources)) folder indexed.plan indexed.picks.items old new
-        (copied_by (IsPathAt paths) (IsPathAt sources) folder indexed.plan indexed.picks.items old new set);
+    stands =
+        let best = best_of_sources (accepted (answers_of h.readings)) in
+        let named = picks_named sources paths bad old h.readings have h.read (harmonised best)
+        (records_of (label_for choice best []) (harmonised best)) indexed.picks.items h.notes.0.picks in
+        stands_whole (IsPathAt sources) (λ _ _. ⊥) folder indexed.plan indexed.picks.items old new
+        (set_by (IsPathAt paths) (IsPathAt sources) (λ _ _. ⊥) (λ _ _. ⊥) folder indexed.plan indexed.picks.items old
+        new named set);
   }
 
 -- the answers are as many as the sources

@@ -1,4 +1,4 @@
--- The versions that an index answers for its sources are those that the files at these say.
+-- The versions that `index` reads are those of the files at its sources.
 use Rattle.std.proofs.Common.{◌≡◌, ◌<◌, ◌≤◌, ◌∙◌, ℕ, zero, suc, List, [], ◌∷◌, Option, None, Some, Ok, Err}
 use Rattle.std.proofs.Common.{ap, arith, false, inl, inr, length, length-append, refl, subst, sym, true}
 use Rattle.std.specs.Prelude.{◌++◌, Contains, IfErr, IfSome, slice_get, slice_index_or, unwrap_or}
@@ -67,13 +67,13 @@ no_front : (front rest : List ℕ) → [] ≡ front ++ rest → length front ≡
 no_front front rest is = omega (arith, ap length is, length-append front rest)
 
 -- an empty file has no version
-no_version : (version : Parts) → IsVersion [] version → ⊥
+pub no_version : (version : Parts) → IsVersion [] version → ⊥
 no_version version is =
     let file = is.is_file in
     let none : length file.preamble ≡ 0 = no_front file.preamble _ file.parts in
     omega (arith, none, file.free)
 
-short_file : (file : List ℕ) (version : Parts) → AnswersSource most_of_source file (Ok version)
+pub short_file : (file : List ℕ) (version : Parts) → AnswersSource most_of_source file (Ok version)
     → length file ≤ most_of_source
 short_file file version answers =
     let no : most_of_source < length file → ⊥ = λ long. (let e = answers.long.1 long in absurd (cc)) in
@@ -109,7 +109,7 @@ says_memory file (File (Meta parsing.Memory)) want = tt
 says_memory file (File (Set parsing.Memory)) want = tt
 says_memory file fault want = absurd want
 
-version_is : (file : List ℕ) (version : Parts) (answer : Answer) → IfErr answer IsOfSource → Answers file answer
+pub version_is : (file : List ℕ) (version : Parts) (answer : Answer) → IfErr answer IsOfSource → Answers file answer
     → IsVersion file version → answer ≡ Ok version
 version_is file version (Ok parts) settled answers right = ap (λ (v : Parts). Ok v) (answers.only version right)
 version_is file version (Err fault) settled answers right =

@@ -114,7 +114,7 @@ module _ {V : Type 0} (given : SetListing → List V)
 
 -- ---- the versions and the withdrawn UIDs
 
-twice : {A B C : Type 0} (f : B → C) (g : A → B) (xs : List A) → map f (map g xs) ≡ map (λ x. f (g x)) xs
+pub twice : {A B C : Type 0} (f : B → C) (g : A → B) (xs : List A) → map f (map g xs) ≡ map (λ x. f (g x)) xs
 twice f g [] = refl
 twice {C = C} f g (x ∷ xs) = ap (λ (l : List C). f (g x) ∷ l) (twice f g xs)
 

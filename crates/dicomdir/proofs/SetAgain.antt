@@ -35,7 +35,7 @@ use Rattle.dd_line.specs.declared.line.Verb.TheVariants.{Merge}
 use Rattle.dicomdir.proofs.KeptListed.{one_list, takes, text_of}
 use Rattle.dicomdir.proofs.OnePaths.{one_directory}
 use Rattle.dicomdir.specs.Headline.{AreGivenFolders, LeaveOneDirectory, LeavesDirectory, Lists, Makes, MergesCopies}
-use Rattle.dicomdir.specs.Headline.{Names, OneSetSays}
+use Rattle.dicomdir.specs.Headline.{Names, OneSetSays, folder_for}
 use Rattle.dicomdir.specs.Lines.{choice_of}
 use Rattle.dicomdir.specs.Merges.{HasDirectory}
 
@@ -53,7 +53,7 @@ same_uid None id m n w one = ap (λ (l : List Parts). (harmony_label id l w).uid
 same_uid (Some uid) id m n w one = refl
 
 -- it has the directory that it has out of harmony
-text_again : (choice : Choice) (m : List Parts) (w : List (List ℕ))
+pub text_again : (choice : Choice) (m : List Parts) (w : List (List ℕ))
     → directory (label_for choice (harmonised m) w) (harmonised m) w ≡ directory (label_for choice m w) m w
 text_again choice m w =
     let one = harmony_again_is_same m in
@@ -139,19 +139,19 @@ module _ (m : List Parts) (w : List (List ℕ)) (text : List ℕ) (says : SaysIt
 -- ---- the law
 
 -- OUT is one folder, with one directory
-one_left : (given : List Row) (bytes other : List ℕ) (held : Held) → LeavesDirectory given bytes held
-    → LeavesDirectory given other held → bytes ≡ other
-one_left given bytes other held one two =
+pub one_left : (verb : Verb) (given : List Row) (bytes other : List ℕ) (held : Held)
+    → LeavesDirectory verb given bytes held → LeavesDirectory verb given other held → bytes ≡ other
+one_left verb given bytes other held one two =
     let same : one.folder ≡ two.folder = same_head one.folder two.folder (sym one.out ∙ two.out) in
-    one_directory two.folder bytes other held
-    (subst (λ (f : List ℕ). HasDirectory f bytes (Some held)) same one.stands) two.stands
+    one_directory (folder_for verb given two.folder) bytes other held
+    (subst (λ (f : List ℕ). HasDirectory (folder_for verb given f) bytes (Some held)) same one.stands) two.stands
   where
     same_head : (one two : Text) → one ∷ [] ≡ two ∷ [] → one ≡ two
     same_head one two is = cc
 
 pub merged_again : (verb : Verb) (given others : List Row) (old new first last : Held) → Makes verb given old new
-    → Makes Merge others first last → choice_of given ≡ choice_of others → MergesCopies given others new first
-    → LeaveOneDirectory given others new last
+    → Makes Merge others first last → choice_of given ≡ choice_of others → MergesCopies verb given others new first
+    → LeaveOneDirectory verb Merge given others new last
 merged_again verb given others old new first last made also choice copies =
     let one = takes verb given old new made in
     let two = takes Merge others first last also in
@@ -159,7 +159,7 @@ merged_again verb given others old new first last made also choice copies =
     let m = (held_of one.taken).versions in
     let w = (held_of one.taken).withdrawn in
     let says = one.has.again in
-    let bytes : copies.bytes ≡ text = one_left given copies.bytes text new copies.left one.has.leaves in
+    let bytes : copies.bytes ≡ text = one_left verb given copies.bytes text new copies.left one.has.leaves in
     let each : (folder : Text) → Contains copies.folders folder → HasDirectory folder text (Some first) =
     λ folder among. subst (λ (b : List ℕ). HasDirectory folder b (Some first)) bytes (copies.each folder among) in
     let folders : (names : List Text) → AreGivenFolders others first names → names ≡ copies.folders =
@@ -191,5 +191,5 @@ merged_again verb given others old new first last made also choice copies =
     (sym choice) held ∙ text_again (choice_of given) m w in (
       text,
       one.has.leaves,
-      subst (λ (b : List ℕ). LeavesDirectory others b last) texts two.has.leaves,
+      subst (λ (b : List ℕ). LeavesDirectory Merge others b last) texts two.has.leaves,
     )

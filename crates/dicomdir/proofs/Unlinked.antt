@@ -1,53 +1,90 @@
--- What images are hard links of may be said otherwise. So where no hard links are asked for, images get none.
-use Rattle.std.proofs.Common.{◌≡◌, ℕ, List, [], ◌∷◌, Option, Result, Ok, Err, IfOk, false, inl, inr, true}
+-- Where the files of picks stand, and which images may be hard links, may be said otherwise.
+use Rattle.std.proofs.Common.{◌≡◌, ℕ, List, [], ◌∷◌, Option, None, Some, Result, Ok, Err, IfOk, false, get_or, inl, inr, true}
+use Rattle.std.proofs.lemmas.List.Elements.{All-head, All-tail}
+use Rattle.std.specs.Prelude.{All, IfSome, IsSomeAnd, zip}
 use Rattle.dd_elem.specs.FileId.{Ranks}
 use Rattle.dd_files.specs.Files.{Held}
 use Rattle.dd_version.specs.declared.parts.Parts.{Parts}
 use Rattle.dd_layout.specs.declared.record.PlanRecord.{PlanRecord}
 use Rattle.dd_layout.specs.Layouts.{Layout}
-use Rattle.dicomdir.specs.Made.{MakesFileSet, MakesImage, MakesRow, MakesRows, MayLink}
+use Rattle.dicomdir.specs.Made.{HasAtOne, MakesFileSet, MakesImage, MakesRow, MakesRows}
 
-image_by : (From To : List ℕ → Type 0) (folder : List ℕ) (file : Ranks) (planned : Parts) (old new : Option Held)
-    → ((path : List ℕ) → From path → To path) → MakesImage From folder file planned old new
-    → MakesImage To folder file planned old new
-image_by From To folder file planned old new same (inl copied) = inl copied
-image_by From To folder file planned old new same (inr linked) = inr (record {
-  path = linked.path;
-  from = linked.from;
-  place = linked.place;
-  picked = same linked.from linked.picked;
-  there = linked.there;
-  free = linked.free;
-  made = linked.made;
-})
+-- ---- one image
 
-row_by : (From To : List ℕ → Type 0) (folder : List ℕ) (versions : List Parts) (row : PlanRecord)
-    (old new : Option Held) → ((path : List ℕ) → From path → To path) → MakesRow From folder versions row old new
-    → MakesRow To folder versions row old new
-row_by From To folder versions row old new same made = record {
-  file = made.file;
-  named = made.named;
-  planned = made.planned;
-  of = made.of;
-  made = image_by From To folder made.file made.planned old new same made.made;
-}
+-- what is so of the bytes of a file
+pub bytes_by : (P Q : List ℕ → Type 0) (from : List ℕ) (files : Option Held) → ((bytes : List ℕ) → P bytes → Q bytes)
+    → IfSome files (λ held. IsSomeAnd (held.bytes_at from) P) → IfSome files (λ held. IsSomeAnd (held.bytes_at from) Q)
+bytes_by P Q from None same there = tt
+bytes_by P Q from (Some held) same there = go (held.bytes_at from) there
+  where
+    go : (file : Option (List ℕ)) → IsSomeAnd file P → IsSomeAnd file Q
+    go None some = some
+    go (Some bytes) some = same bytes some
 
-module _ {P : Type 0} (From To : P → List ℕ → Type 0) (same : (pick : P) (path : List ℕ) → From pick path → To pick path)
-    (folder : List ℕ) where
-  rows_by : (versions : List Parts) (rows : List (PlanRecord × P)) (old new : Option Held)
-      → MakesRows From folder versions rows old new → MakesRows To folder versions rows old new
-  rows_by versions [] old new made = made
-  rows_by versions (row ∷ rows) old new made = (
+-- what is said of a pick says this of it, too
+pub record SaysToo (From To MayLink MayLinkTo : List ℕ → Type 0) : Type 0 where
+  pub stands : (path : List ℕ) → From path → To path
+  pub links : (bytes : List ℕ) → MayLink bytes → MayLinkTo bytes
+
+module _ (From To MayLink MayLinkTo : List ℕ → Type 0) (same : SaysToo From To MayLink MayLinkTo) where
+  image_by : (folder : List ℕ) (file : Ranks) (planned : Parts) (old new : Option Held)
+      → MakesImage From MayLink folder file planned old new → MakesImage To MayLinkTo folder file planned old new
+  image_by folder file planned old new (inl copied) = inl (record {
+    path = copied.path;
+    bytes = copied.bytes;
+    place = copied.place;
+    free = copied.free;
+    of = record {
+      from = copied.of.from;
+      picked = same.stands copied.of.from copied.of.picked;
+      there = copied.of.there;
+    };
+    is = copied.is;
+    made = copied.made;
+  })
+  image_by folder file planned old new (inr linked) = inr (record {
+    path = linked.path;
+    from = linked.from;
+    place = linked.place;
+    picked = same.stands linked.from linked.picked;
+    there = bytes_by MayLink MayLinkTo linked.from old same.links linked.there;
+    free = linked.free;
+    made = linked.made;
+  })
+
+  row_by : (folder : List ℕ) (versions : List Parts) (row : PlanRecord) (old new : Option Held)
+      → MakesRow From MayLink folder versions row old new → MakesRow To MayLinkTo folder versions row old new
+  row_by folder versions row old new made = record {
+    file = made.file;
+    named = made.named;
+    planned = made.planned;
+    of = made.of;
+    made = image_by folder made.file made.planned old new made.made;
+  }
+
+-- ---- all of them
+
+module _ {P : Type 0} (From To MayLink MayLinkTo : P → List ℕ → Type 0) (folder : List ℕ) where
+  abbrev Same : P → Type 0
+  Same pick = SaysToo (From pick) (To pick) (MayLink pick) (MayLinkTo pick)
+
+  rows_by : (versions : List Parts) (rows : List PlanRecord) (picks : List P) (old new : Option Held) → All Same picks
+      → MakesRows From MayLink folder versions (zip rows picks) old new
+      → MakesRows To MayLinkTo folder versions (zip rows picks) old new
+  rows_by versions [] picks old new same made = made
+  rows_by versions (row ∷ rows) [] old new same made = made
+  rows_by versions (row ∷ rows) (pick ∷ picks) old new same made = (
     made.0,
-    row_by (From row.1) (To row.1) folder versions row.0 old made.0 (same row.1) made.1,
-    rows_by versions rows made.0 new made.2,
+    row_by (From pick) (To pick) (MayLink pick) (MayLinkTo pick) (All-head Same pick picks same) folder versions row
+        old made.0 made.1,
+    rows_by versions rows picks made.0 new (All-tail Same pick picks same) made.2,
   )
 
-  set_by : (plan : Layout) (picks : List P) (old new : Option Held) → MakesFileSet From folder plan picks old new
-      → MakesFileSet To folder plan picks old new
-  set_by plan picks old new made = record {
+  pub set_by : (plan : Layout) (picks : List P) (old new : Option Held) → All Same picks
+      → MakesFileSet From MayLink folder plan picks old new → MakesFileSet To MayLinkTo folder plan picks old new
+  set_by plan picks old new same made = record {
     copied = made.copied;
-    images = rows_by plan.versions _ old made.copied made.images;
+    images = rows_by plan.versions _ picks old made.copied same made.images;
     path = made.path;
     place = made.place;
     free = made.free;
@@ -56,18 +93,17 @@ module _ {P : Type 0} (From To : P → List ℕ → Type 0) (same : (pick : P) (
     again = made.again;
   }
 
--- images that get no hard links are copies, whatever they may be links of
-pub copied_by : {P : Type 0} (From To : P → List ℕ → Type 0) (folder : List ℕ) (plan : Layout) (picks : List P)
-    (old new : Option Held) → MakesFileSet (MayLink ⊥ From) folder plan picks old new
-    → MakesFileSet (MayLink ⊥ To) folder plan picks old new
-copied_by From To folder plan picks old new made =
-    set_by (MayLink ⊥ From) (MayLink ⊥ To) (λ pick path may. absurd (may.0)) folder plan picks old new made
+  -- the same where each pick is one of these
+  pub set_each : (plan : Layout) (picks : List P) (old new : Option Held) → ((pick : P) → Same pick)
+      → MakesFileSet From MayLink folder plan picks old new → MakesFileSet To MayLinkTo folder plan picks old new
+  set_each plan picks old new same made = set_by plan picks old new (λ at d within. same (get_or picks at d)) made
 
+-- where no hard links are asked for, images get none
 pub unlinked_done : {P E : Type 0} (r : Result ℕ E) (StandsAt : P → List ℕ → Type 0) (folder : List ℕ) (plan : Layout)
     (picks : List P) (old new : Option Held)
-    → IfOk r (λ status. status ≡ 0 → MakesFileSet (MayLink (false ≡ true) StandsAt) folder plan picks old new)
-    → IfOk r (λ status. status ≡ 0 → MakesFileSet (MayLink ⊥ StandsAt) folder plan picks old new)
+    → IfOk r (λ status. status ≡ 0 → MakesFileSet StandsAt (λ _ _. false ≡ true) folder plan picks old new)
+    → IfOk r (λ status. status ≡ 0 → MakesFileSet StandsAt (λ _ _. ⊥) folder plan picks old new)
 unlinked_done (Ok status) StandsAt folder plan picks old new made = λ done.
-    set_by (MayLink (false ≡ true) StandsAt) (MayLink ⊥ StandsAt) (λ pick path may. absurd (cc)) folder plan picks old
-    new (made done)
+    set_each StandsAt StandsAt (λ _ _. false ≡ true) (λ _ _. ⊥) folder plan picks old new
+    (λ pick. record { stands = λ path at. at; links = λ bytes may. absurd (cc) }) (made done)
 unlinked_done (Err refusal) StandsAt folder plan picks old new made = tt

@@ -1,5 +1,5 @@
 -- What the files say that a command reads, and what stands in OUT once it has made its file-set.
-use Rattle.std.specs.Prelude.{◌≡◌, ◌≢◌, ◌↔◌, ◌⊎◌, ◌≤◌, ℕ, List, [], Contains, Some, false, length, map}
+use Rattle.std.specs.Prelude.{◌≡◌, ◌≢◌, ◌↔◌, ◌⊎◌, ◌≤◌, ℕ, List, [], Contains, Some, Ok, false, length, map}
 use Rattle.std.specs.Str.{IsUtf8}
 use Rattle.clap.specs.Takes.{is_given}
 use Rattle.clap.specs.Words.{Row, Text, first_of}
@@ -10,17 +10,24 @@ use Rattle.dd_dir.specs.Visits.{Realises}
 use Rattle.dd_engine.specs.Choosing.{label_for}
 use Rattle.dd_engine.specs.Merging.{IsOwn, SetListing}
 use Rattle.dd_files.specs.Files.{Held}
+use Rattle.dd_files.specs.Keeping.{KeepsAll}
 use Rattle.dd_keys.specs.Versions.{IsVersion}
-use Rattle.dd_line.specs.Line.{files0_from_name, given_for, instance_name, keep_going_name, out_name, set_name}
-use Rattle.dd_line.specs.Line.{source_name}
+use Rattle.dd_line.specs.Line.{files0_from_name, given_for, instance_name, keep_going_name, out_name, pile_name}
+use Rattle.dd_line.specs.Line.{set_name, source_name}
 use Rattle.dd_line.specs.Requests.{IsOnly}
 use Rattle.dd_line.specs.declared.line.Verb.{Verb}
-use Rattle.dd_line.specs.declared.line.Verb.TheVariants.{Check, Index, List as ListSet, Merge, Withdraw}
+use Rattle.dd_line.specs.declared.line.Verb.TheVariants.{Check, Index, List as ListSet, Merge, Publish, Stage, Withdraw}
+use Rattle.dd_pile.specs.Lists.{HasList}
+use Rattle.dd_pile.specs.declared.sum.StageSum.{StageSum}
+use Rattle.dd_staged.specs.Sources.{Source}
+use Rattle.dd_staged.specs.Stages.{IsStage}
 use Rattle.dd_version.specs.declared.parts.Parts.{Parts}
+use Rattle.dicomdir.specs.From.{looked_up}
 use Rattle.dicomdir.specs.Indexes.{most_of_source}
-use Rattle.dicomdir.specs.Lines.{IndexesRows, MergesRows, WithdrawsRows, choice_of}
+use Rattle.dicomdir.specs.Lines.{IndexesRows, MergesRows, PublishesRows, WithdrawsRows, choice_of, from_in, list_in}
 use Rattle.dicomdir.specs.ListedNames.{AreSources}
 use Rattle.dicomdir.specs.Merges.{HasDirectory}
+use Rattle.dicomdir.specs.Stages.{MakesNamed}
 
 -- ---- what the files say
 
@@ -52,7 +59,15 @@ Lists version listing = Contains (map version_of listing.images) version
 abbrev pub Names : List ℕ → SetListing → Type 0
 Names uid listing = Contains listing.withdrawn uid
 
--- the sources that `index` is given, and the folders that `merge` is given
+-- the list of a pile in one of these folders says of a source that it has this version
+pub record OneListSays (piles : List Text) (held : Held) (version : Parts) : Type 0 where
+  pub pile : Text
+  pub among : Contains piles pile
+  pub sources : List Source
+  pub list : HasList pile (λ bytes. IsStage bytes sources) held
+  pub says : Contains (map (λ source. source.found) sources) (Ok version)
+
+-- the sources that `index` is given, the folders that `merge` is given, and the piles that `publish` is given
 abbrev pub AreGivenSources : List Row → Held → List Text → Type 0
 AreGivenSources given held sources = AreSources (is_given keep_going_name given) (first_of files0_from_name given)
     (given_for source_name given) (Some held) sources
@@ -61,6 +76,9 @@ abbrev pub AreGivenFolders : List Row → Held → List Text → Type 0
 AreGivenFolders given held folders =
     AreSources false (first_of files0_from_name given) (given_for set_name given) (Some held) folders
 
+abbrev pub AreGivenPiles : List Row → Held → List Text → Type 0
+AreGivenPiles given held piles = AreSources false (list_in given) (given_for pile_name given) (Some held) piles
+
 -- what the command reads says that there is this version
 abbrev pub SaysVersion : Verb → List Row → Held → Parts → Type 0
 SaysVersion Index given held version =
@@ -68,6 +86,9 @@ SaysVersion Index given held version =
 SaysVersion Merge given held version =
     (folders : List Text) × AreGivenFolders given held folders × OneSetSays folders held (Lists version)
 SaysVersion Withdraw given held version = OneSetSays (given_for set_name given) held (Lists version)
+SaysVersion Publish given held version =
+    (piles : List Text) × AreGivenPiles given held piles × OneListSays piles held version
+SaysVersion Stage given held version = ⊥
 SaysVersion Check given held version = ⊥
 SaysVersion ListSet given held version = ⊥
 
@@ -78,29 +99,38 @@ Withdraws Merge given held uid =
     (folders : List Text) × AreGivenFolders given held folders × OneSetSays folders held (Names uid)
 Withdraws Withdraw given held uid =
     Contains (given_for instance_name given) uid ⊎ OneSetSays (given_for set_name given) held (Names uid)
+Withdraws Publish given held uid = ⊥
+Withdraws Stage given held uid = ⊥
 Withdraws Check given held uid = ⊥
 Withdraws ListSet given held uid = ⊥
 
 -- ---- what stands in OUT
 
--- the command, with these words, ended with 0 and made what `run` says of it
+-- `index`, `merge`, `withdraw` or `publish`, with these words, ended with 0 and made what `run` says of it
 abbrev pub Makes : Verb → List Row → Held → Held → Type 0
 Makes Index given old new = IndexesRows given 0 (Some old) (Some new)
 Makes Merge given old new = MergesRows given (Some old) (Some new)
 Makes Withdraw given old new = WithdrawsRows given (Some old) (Some new)
+Makes Publish given old new = PublishesRows given (Some old) (Some new)
+Makes Stage given old new = ⊥
 Makes Check given old new = ⊥
 Makes ListSet given old new = ⊥
 
+-- where this folder is looked up: `publish` does so in the folder that its words give
+abbrev pub folder_for : Verb → List Row → Text → Text
+folder_for Publish given folder = looked_up (from_in given) folder
+folder_for verb given folder = folder
+
 -- OUT/DICOMDIR has these bytes
-pub record LeavesDirectory (given : List Row) (bytes : List ℕ) (new : Held) : Type 0 where
+pub record LeavesDirectory (verb : Verb) (given : List Row) (bytes : List ℕ) (new : Held) : Type 0 where
   pub folder : Text
   pub out : IsOnly out_name given folder
-  pub stands : HasDirectory folder bytes (Some new)
+  pub stands : HasDirectory (folder_for verb given folder) bytes (Some new)
 
 -- two commands gave their file-sets one directory, byte for byte
-abbrev pub LeaveOneDirectory : List Row → List Row → Held → Held → Type 0
-LeaveOneDirectory given others new last =
-    (bytes : List ℕ) × LeavesDirectory given bytes new × LeavesDirectory others bytes last
+abbrev pub LeaveOneDirectory : Verb → Verb → List Row → List Row → Held → Held → Type 0
+LeaveOneDirectory verb other given others new last =
+    (bytes : List ℕ) × LeavesDirectory verb given bytes new × LeavesDirectory other others bytes last
 
 -- ---- what two commands have in common
 
@@ -110,13 +140,69 @@ pub record SayTheSame (verb other : Verb) (given others : List Row) (old first :
   pub withdrawn : (uid : List ℕ) → Withdraws verb given old uid ↔ Withdraws other others first uid
 
 -- Each set that `merge` is given, of which there is one at least, has the directory that another command left.
-pub record MergesCopies (given others : List Row) (new first : Held) : Type 0 where
+pub record MergesCopies (verb : Verb) (given others : List Row) (new first : Held) : Type 0 where
   pub bytes : List ℕ
-  pub left : LeavesDirectory given bytes new
+  pub left : LeavesDirectory verb given bytes new
   pub folders : List Text
   pub are : AreGivenFolders others first folders
   pub some : folders ≢ []
   pub each : (folder : Text) → Contains folders folder → HasDirectory folder bytes (Some first)
+
+-- `stage` made this pile of the files at these paths, where the same bytes stand now. The pile is kept as it was made.
+pub record IsPileOf (pile : Text) (paths : List Text) (held now : Held) : Type 0 where
+  pub from : Text
+  pub names : List Text
+  pub looked : paths ≡ map (looked_up from) names
+  pub sum : StageSum
+  pub before : Held
+  pub made : Held
+  pub makes : MakesNamed from pile names sum (Some before) (Some made)
+  pub kept : KeepsAll made held
+  pub same : (path : Text) → Contains paths path → now.bytes_at path ≡ made.bytes_at path
+
+-- The piles that `publish` is given were made of sources that `index` is given: of all these, and of no others.
+pub record PublishesSources (given others : List Row) (old first : Held) : Type 0 where
+  pub piles : List Text
+  pub are : AreGivenPiles given old piles
+  pub sources : List Text
+  pub are_sources : AreGivenSources others first sources
+  pub utf8 : (source : Text) → Contains sources source → IsUtf8 source
+  pub staged : Text → List Text
+  pub each : (pile : Text) → Contains piles pile → IsPileOf pile (staged pile) old first
+  pub all : (source : Text) → Contains sources source
+      ↔ (pile : Text) × Contains piles pile × Contains (staged pile) source
+
+-- a run of a command with these words, and what the files held before and after
+pub record Run : Type 0 where
+  pub verb : Verb
+  pub given : List Row
+  pub old : Held
+  pub new : Held
+
+-- the set in this folder has the directory that this run left, which withdrew nothing
+pub record IsSetOf (run : Run) (folder : Text) (now : Held) : Type 0 where
+  pub makes : Makes run.verb run.given run.old run.new
+  pub none : (uid : List ℕ) → ¬ Withdraws run.verb run.given run.old uid
+  pub bytes : List ℕ
+  pub left : LeavesDirectory run.verb run.given bytes run.new
+  pub stands : HasDirectory folder bytes (Some now)
+
+-- the run that left the set in one of these folders read something that says this version
+abbrev pub IsSaidBy : List Text → (Text → Run) → Parts → Type 0
+IsSaidBy folders part version = (folder : Text) × Contains folders folder
+    × SaysVersion (part folder).verb (part folder).given (part folder).old version
+
+-- The sets that `merge` is given have the directories that runs over parts left. Another command reads the whole: the
+-- versions that it says are those that the parts say. It says one of each instance at most, and withdraws nothing.
+pub record MergesParts (verb : Verb) (given others : List Row) (old first : Held) : Type 0 where
+  pub folders : List Text
+  pub are : AreGivenFolders others first folders
+  pub part : Text → Run
+  pub each : (folder : Text) → Contains folders folder → IsSetOf (part folder) folder first
+  pub all : (version : Parts) → SaysVersion verb given old version ↔ IsSaidBy folders part version
+  pub agree : (one other : Parts) → SaysVersion verb given old one → SaysVersion verb given old other
+      → one.instance ≡ other.instance → one ≡ other
+  pub none : (uid : List ℕ) → ¬ Withdraws verb given old uid
 
 -- ---- what a directory lists
 
@@ -128,7 +214,7 @@ pub record ListsKept (verb : Verb) (given : List Row) (old new : Held) : Type 0 
   pub versions : (version : Parts) → Contains taken.versions version ↔ SaysVersion verb given old version
   pub withdrawn : (uid : List ℕ) → Contains taken.withdrawn uid ↔ Withdraws verb given old uid
   pub bytes : List ℕ
-  pub directory : LeavesDirectory given bytes new
+  pub directory : LeavesDirectory verb given bytes new
   pub visited : let h = held_of taken in
       Realises (label_for (choice_of given) h.versions h.withdrawn) h.versions bytes
   pub again : let h = held_of taken in SaysItself h.versions h.withdrawn bytes

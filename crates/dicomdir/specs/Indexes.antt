@@ -17,7 +17,7 @@ use Rattle.dd_keys.specs.declared.fault.KeyFault.{KeyFault}
 use Rattle.dd_keys.specs.declared.fault.KeyFault.TheVariants.{Read}
 use Rattle.dd_layout.specs.Limits.{Limits}
 use Rattle.dicomdir.specs.FileSupply.{contents_at}
-use Rattle.dicomdir.specs.Made.{IsPathAt, MayLink}
+use Rattle.dicomdir.specs.Made.{IsPathAt}
 use Rattle.dicomdir.specs.Standing.{IfSaid, StandsWhole}
 
 -- the most bytes of a source
@@ -89,7 +89,7 @@ pub record MakesIndex (choice : Choice) (bytes : ℕ) (sources : List (List ℕ)
   pub all : (status ≡ 0) ↔ NoneFailed readings
   pub indexed : Indexed
   pub is : IsIndexed choice (limits_of bytes) (answers_of readings) indexed
-  pub stands : IfSaid (StandsWhole (MayLink ⊥ (IsPathAt sources)) folder indexed.plan indexed.picks.items) old new
+  pub stands : IfSaid (StandsWhole (IsPathAt sources) (λ _ _. ⊥) folder indexed.plan indexed.picks.items) old new
 
 -- `index` that is done has made this
 abbrev pub DoneIndexes : {E : Type 0} → Result ℕ E → Choice → ℕ → List (List ℕ) → List ℕ → Option Held → Option Held

@@ -18,6 +18,7 @@ use Rattle.dd_line.specs.Line.{given_paths, json_name, keys_name, long_name, str
 use Rattle.dd_line.specs.declared.line.Verb.TheVariants.{List as ListVerb}
 use Rattle.dd_line.specs.declared.request.Request.{Request}
 use Rattle.dd_line.specs.declared.request.Request.TheVariants.{Index as ToIndex, Merge as ToMerge, Withdraw as ToWithdraw}
+use Rattle.dd_line.specs.declared.request.Request.TheVariants.{Stage as ToStage, Publish as ToPublish}
 use Rattle.dd_line.specs.declared.request.Request.TheVariants.{Check as ToCheck, List as ToList}
 use Rattle.dd_report.specs.Checking.{TellsSome, TellsWalk}
 use Rattle.dd_report.specs.Listing.{listing}
@@ -144,6 +145,8 @@ abbrev pub PrintsRequested : {R W : Type 0} → ReadOf R → WriteOf W → Reque
 PrintsRequested readers writer (ToIndex x) files status old new from to = Unit {0}
 PrintsRequested readers writer (ToMerge x) files status old new from to = Unit {0}
 PrintsRequested readers writer (ToWithdraw x) files status old new from to = Unit {0}
+PrintsRequested readers writer (ToStage x) files status old new from to = Unit {0}
+PrintsRequested readers writer (ToPublish x) files status old new from to = Unit {0}
 PrintsRequested readers writer (ToCheck x) files status old new from to =
     ChecksSet readers (string_bytes x.set) files (comparison_by x.keys x.strict) (style_by x.json) writer status old new
     from to

@@ -3,6 +3,7 @@ pub mod Done
 pub mod DryRun
 pub mod EmptyPaths
 pub mod FileSupply
+pub mod From
 pub mod Headline
 pub mod Indexes
 pub mod Inspecting
@@ -15,12 +16,16 @@ pub mod Mistakes
 pub mod Names
 pub mod Noted
 pub mod Prints
+pub mod Publishes
+pub mod ReadingAhead
 pub mod Refusal
 pub mod Said
+pub mod Stages
 pub mod Standing
 pub mod Sum
 pub mod Words
 pub use Rattle.dd_engine.specs.Choosing
+pub use Rattle.dd_engine.specs.Found
 pub use Rattle.dd_engine.specs.Indexed
 pub use Rattle.dd_engine.specs.IndexNotes
 pub use Rattle.dd_engine.specs.Indexing
@@ -40,6 +45,11 @@ pub use Rattle.dd_files.specs.Paths
 pub use Rattle.dd_files.specs.Progress
 pub use Rattle.dd_files.specs.ReadToEnd
 pub use Rattle.dd_line.specs.Line
+pub use Rattle.dd_pile.specs.Copies
+pub use Rattle.dd_pile.specs.Lists
+pub use Rattle.dd_pile.specs.Paths as PilePaths
+pub use Rattle.dd_pile.specs.Piles
+pub use Rattle.dd_pile.specs.Sums
 pub use Rattle.dd_report.specs.Checking
 pub use Rattle.dd_report.specs.Finding
 pub use Rattle.dd_report.specs.Listing

@@ -7,8 +7,9 @@ use Rattle.std.specs.Str.{IsUtf8}
 use Rattle.clap.specs.Words.{Text}
 use Rattle.dd_files.specs.Files.{Held}
 use Rattle.dd_line.specs.declared.request.Request.{Request}
-use Rattle.dd_line.specs.declared.request.Request.TheVariants.{Check, Index, List as ListSet, Merge, Withdraw}
+use Rattle.dd_line.specs.declared.request.Request.TheVariants.{Check, Index, List as ListSet, Merge, Publish, Stage, Withdraw}
 use Rattle.dicomdir.specs.FileSupply.{HasBytes}
+use Rattle.dicomdir.specs.From.{from_text, looked_up_list}
 
 -- the parts of a list: a zero byte ends each, but the last one may end with the list
 abbrev pub parts : List ℕ → List (List ℕ)
@@ -43,11 +44,13 @@ pub record FailsAt (keeps_going : Bool) (parts : List (List ℕ)) (number : ℕ)
   pub before : AllWithin (IsListed keeps_going) parts 0 (number - 1)
   pub fails : ¬ IsListed keeps_going (slice_index_or parts (number - 1) [])
 
--- the path of the list of names that the request has
+-- the path at which the list of names is looked up that the request has
 abbrev pub list_of : Request → Option Text
 list_of (Index x) = option_map string_bytes x.sources.files0_from
 list_of (Merge x) = option_map string_bytes x.sets.files0_from
 list_of (Withdraw x) = None
+list_of (Stage x) = option_map (λ list. looked_up_list (from_text x.from) (string_bytes list)) x.sources.files0_from
+list_of (Publish x) = option_map (λ list. looked_up_list (from_text x.from) (string_bytes list)) x.piles.files0_from
 list_of (Check x) = None
 list_of (ListSet x) = None
 

@@ -1,7 +1,7 @@
 -- What a command that makes a file-set changes in files that tell what they hold: it makes the file of each image,
 -- record by record, and then the directory.
 use Rattle.std.specs.Prelude.{◌≡◌, ◌⊎◌, ◌<◌, ℕ, List, [], ◌∷◌, All, filter, zip, Option, None, Some, is_some}
-use Rattle.std.specs.Prelude.{IfSome, IsSome, codes, option_map, slice_get, slice_index_or}
+use Rattle.std.specs.Prelude.{IfSome, IsSomeAnd, codes, length, option_map, slice_get, slice_index_or}
 use Rattle.dd_catalogue.specs.Best.{IsRising}
 use Rattle.dd_catalogue.specs.Harmony.{harmonised}
 use Rattle.dd_catalogue.specs.Versions.{IsCatalogue}
@@ -19,6 +19,9 @@ use Rattle.dd_version.specs.declared.parts.Parts.{Parts}
 use Rattle.dd_layout.specs.declared.record.PlanRecord.{PlanRecord}
 use Rattle.dd_layout.specs.Layouts.{Layout}
 use Rattle.dd_layout.specs.Plans.{records_of}
+use Rattle.dicomdir.specs.FileSupply.{HasBytes}
+use Rattle.dicomdir.specs.declared.origins.Lookup.{Lookup}
+use Rattle.dicomdir.specs.declared.origins.Lookup.TheVariants.{Stored}
 
 -- the path of the file with this File ID (PS3.10 section 8.2) in the folder
 abbrev pub IsPlace : List ℕ → Ranks → List ℕ → Type 0
@@ -35,67 +38,83 @@ pub record StartsImage (folder : List ℕ) (file : Ranks) (old new : Option Held
   pub free : IsFree path old
   pub started : new ≡ option_map (started path) old
 
--- a file of the planned version was made there, where none stood, and all other files are as they were
-pub record CopiesImage (folder : List ℕ) (file : Ranks) (planned : Parts) (old new : Option Held) : Type 0 where
+-- a file at one of these paths has these bytes, where the files say what they hold
+pub record HasAtOne (From : List ℕ → Type 0) (bytes : List ℕ) (files : Option Held) : Type 0 where
+  pub from : List ℕ
+  pub picked : From from
+  pub there : HasBytes from bytes files
+
+-- A file at one of these paths was copied there, where none stood. It is a file of the planned version, and all other
+-- files are as they were.
+pub record CopiesImage (From : List ℕ → Type 0) (folder : List ℕ) (file : Ranks) (planned : Parts)
+    (old new : Option Held) : Type 0 where
   pub path : List ℕ
   pub bytes : List ℕ
   pub place : IsPlace folder file path
   pub free : IsFree path old
+  pub of : HasAtOne From bytes old
   pub is : IsFileAs planned AsPlanned bytes
   pub made : new ≡ option_map (published path bytes) old
 
--- a file at one of these paths has a hard link there, where none stood, and all other files are as they were
-pub record LinksImage (From : List ℕ → Type 0) (folder : List ℕ) (file : Ranks) (old new : Option Held) : Type 0 where
+-- where a file was stored before, these bytes are as many as it had then
+abbrev pub IsAsStored : Lookup → List ℕ → Type 0
+IsAsStored (Stored size) bytes = length bytes ≡ size
+IsAsStored lookup bytes = Unit {0}
+
+-- A file at one of these paths, whose bytes a hard link may have, has one there, where no file stood. All other files
+-- are as they were.
+pub record LinksImage (From MayLink : List ℕ → Type 0) (folder : List ℕ) (file : Ranks) (old new : Option Held)
+    : Type 0 where
   pub path : List ℕ
   pub from : List ℕ
   pub place : IsPlace folder file path
   pub picked : From from
-  pub there : IfSome old (λ held. IsSome (held.bytes_at from))
+  pub there : IfSome old (λ held. IsSomeAnd (held.bytes_at from) MayLink)
   pub free : IsFree path old
   pub made : new ≡ option_map (linked from path) old
 
--- the image was made: as a copy, or as a hard link to a file at one of these paths
-abbrev pub MakesImage : (List ℕ → Type 0) → List ℕ → Ranks → Parts → Option Held → Option Held → Type 0
-MakesImage From folder file planned old new =
-    CopiesImage folder file planned old new ⊎ LinksImage From folder file old new
+-- the image was made of the file at one of these paths: as a copy, or as a hard link where it may have its bytes
+abbrev pub MakesImage : (List ℕ → Type 0) → (List ℕ → Type 0) → List ℕ → Ranks → Parts → Option Held → Option Held
+    → Type 0
+MakesImage From MayLink folder file planned old new =
+    CopiesImage From folder file planned old new ⊎ LinksImage From MayLink folder file old new
 
 -- the image of this record was made
-pub record MakesRow (From : List ℕ → Type 0) (folder : List ℕ) (versions : List Parts) (row : PlanRecord)
+pub record MakesRow (From MayLink : List ℕ → Type 0) (folder : List ℕ) (versions : List Parts) (row : PlanRecord)
     (old new : Option Held) : Type 0 where
   pub file : Ranks
   pub named : row.file ≡ Some file
   pub planned : Parts
   pub of : slice_get versions row.of ≡ Some planned
-  pub made : MakesImage From folder file planned old new
+  pub made : MakesImage From MayLink folder file planned old new
 
--- the images of these records were made one after the other, each with its pick, which says where its file may be
-abbrev pub MakesRows : {P : Type 0} → (P → List ℕ → Type 0) → List ℕ → List Parts → List (PlanRecord × P)
-    → Option Held → Option Held → Type 0
-MakesRows From folder versions [] old new = new ≡ old
-MakesRows From folder versions (row ∷ rows) old new = (mid : Option Held)
-    × MakesRow (From row.1) folder versions row.0 old mid × MakesRows From folder versions rows mid new
+-- The images of these records were made one after the other, each with its pick. That says where its file may stand, and
+-- which bytes a hard link to it may have.
+abbrev pub MakesRows : {P : Type 0} → (P → List ℕ → Type 0) → (P → List ℕ → Type 0) → List ℕ → List Parts
+    → List (PlanRecord × P) → Option Held → Option Held → Type 0
+MakesRows From MayLink folder versions [] old new = new ≡ old
+MakesRows From MayLink folder versions (row ∷ rows) old new = (mid : Option Held)
+    × MakesRow (From row.1) (MayLink row.1) folder versions row.0 old mid
+    × MakesRows From MayLink folder versions rows mid new
 
 -- the images of the records that have a file were made, as long as there were picks, and nothing else
-abbrev pub MakesImages : {P : Type 0} → (P → List ℕ → Type 0) → List ℕ → List Parts → List PlanRecord → List P
-    → Option Held → Option Held → Type 0
-MakesImages From folder versions records picks old new =
-    MakesRows From folder versions (zip (filter (λ row. is_some row.file) records) picks) old new
+abbrev pub MakesImages : {P : Type 0} → (P → List ℕ → Type 0) → (P → List ℕ → Type 0) → List ℕ → List Parts
+    → List PlanRecord → List P → Option Held → Option Held → Type 0
+MakesImages From MayLink folder versions records picks old new =
+    MakesRows From MayLink folder versions (zip (filter (λ row. is_some row.file) records) picks) old new
 
 -- the image of a record with this file was made, which uses up the first pick; without a file or a pick, nothing was
-abbrev pub CopiesTo : {P : Type 0} → (P → List ℕ → Type 0) → List ℕ → List Parts → PlanRecord → Option Ranks → List P
-    → List P → Option Held → Option Held → Type 0
-CopiesTo From folder versions row None picks later old new = (later ≡ picks) × (new ≡ old)
-CopiesTo From folder versions row (Some file) [] later old new = (later ≡ []) × (new ≡ old)
-CopiesTo From folder versions row (Some file) (pick ∷ more) later old new =
-    (later ≡ more) × MakesRow (From pick) folder versions row old new
+abbrev pub CopiesTo : {P : Type 0} → (P → List ℕ → Type 0) → (P → List ℕ → Type 0) → List ℕ → List Parts → PlanRecord
+    → Option Ranks → List P → List P → Option Held → Option Held → Type 0
+CopiesTo From MayLink folder versions row None picks later old new = (later ≡ picks) × (new ≡ old)
+CopiesTo From MayLink folder versions row (Some file) [] later old new = (later ≡ []) × (new ≡ old)
+CopiesTo From MayLink folder versions row (Some file) (pick ∷ more) later old new =
+    (later ≡ more) × MakesRow (From pick) (MayLink pick) folder versions row old new
 
-abbrev pub Copies : {P : Type 0} → (P → List ℕ → Type 0) → List ℕ → List Parts → PlanRecord → List P → List P
-    → Option Held → Option Held → Type 0
-Copies From folder versions row picks later old new = CopiesTo From folder versions row row.file picks later old new
-
--- where images get hard links, a file may get one that stands at a path that its pick gives
-abbrev pub MayLink : {P : Type 0} → Type 0 → (P → List ℕ → Type 0) → P → List ℕ → Type 0
-MayLink GivesLinks StandsAt pick from = GivesLinks × StandsAt pick from
+abbrev pub Copies : {P : Type 0} → (P → List ℕ → Type 0) → (P → List ℕ → Type 0) → List ℕ → List Parts → PlanRecord
+    → List P → List P → Option Held → Option Held → Type 0
+Copies From MayLink folder versions row picks later old new =
+    CopiesTo From MayLink folder versions row row.file picks later old new
 
 -- the path of this number
 abbrev pub IsPathAt : List (List ℕ) → ℕ → List ℕ → Type 0
@@ -120,10 +139,10 @@ SaysPlan plan = (m : List Parts) → IsCatalogue m → plan.versions ≡ harmoni
 
 -- the images of the records of the plan were made in the folder, one for each pick, and then its directory (PS3.10
 -- section 8.6)
-pub record MakesFileSet {P : Type 0} (From : P → List ℕ → Type 0) (folder : List ℕ) (plan : Layout) (picks : List P)
-    (old new : Option Held) : Type 0 where
+pub record MakesFileSet {P : Type 0} (From MayLink : P → List ℕ → Type 0) (folder : List ℕ) (plan : Layout)
+    (picks : List P) (old new : Option Held) : Type 0 where
   pub copied : Option Held
-  pub images : MakesImages From folder plan.versions (records_of plan.label plan.versions) picks old copied
+  pub images : MakesImages From MayLink folder plan.versions (records_of plan.label plan.versions) picks old copied
   pub path : List ℕ
   pub place : IsPathIn folder (codes "DICOMDIR") path
   pub free : IsFree path copied

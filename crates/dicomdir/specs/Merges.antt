@@ -7,7 +7,7 @@ use Rattle.dd_files.specs.Files.{Held}
 use Rattle.dd_files.specs.Paths.{IsPathIn}
 use Rattle.dicomdir.specs.FileSupply.{HasBytes}
 use Rattle.dicomdir.specs.Indexes.{limits_of}
-use Rattle.dicomdir.specs.Made.{IsMemberPath, MayLink}
+use Rattle.dicomdir.specs.Made.{IsMemberPath}
 use Rattle.dicomdir.specs.Standing.{IfSaid, StandsWhole}
 
 -- the directory of the file-set in the folder (PS3.10 section 8.6) has these bytes
@@ -34,7 +34,7 @@ pub record MakesMerge (choice : Choice) (bytes : ℕ) (given folders : List (Lis
   pub own : AreOwn sets listings
   pub merged : Merged
   pub is : IsMerged choice (limits_of bytes) given listings merged
-  pub stands : IfSaid (StandsWhole (MayLink GivesLinks (IsMemberPath folders)) folder merged.plan merged.picks.items)
+  pub stands : IfSaid (StandsWhole (IsMemberPath folders) (λ _ _. GivesLinks) folder merged.plan merged.picks.items)
       old new
 
 -- a merge that is done has made this

@@ -26,7 +26,9 @@ IsAmong paths subject.General = Unit {0}
 IsAmong paths (subject.Source at) = at < paths
 IsAmong paths (subject.SetDirectory at) = at < paths
 IsAmong paths (subject.SetFile at file) = at < paths
+IsAmong paths (subject.PileFile at file) = at < paths
 IsAmong paths subject.Folder = Unit {0}
+IsAmong paths (subject.InPile file) = Unit {0}
 IsAmong paths subject.Directory = Unit {0}
 IsAmong paths (subject.Image file) = Unit {0}
 IsAmong paths (subject.ImageFolder file) = Unit {0}
@@ -43,12 +45,29 @@ IsSetFile set subject.General = ⊥
 IsSetFile set (subject.Source at) = ⊥
 IsSetFile set (subject.SetDirectory at) = ⊥
 IsSetFile set (subject.SetFile at file) = at ≡ set
+IsSetFile set (subject.PileFile at file) = ⊥
 IsSetFile set subject.Folder = ⊥
+IsSetFile set (subject.InPile file) = ⊥
 IsSetFile set subject.Directory = ⊥
 IsSetFile set (subject.Image file) = ⊥
 IsSetFile set (subject.ImageFolder file) = ⊥
 IsSetFile set subject.List = ⊥
 IsSetFile set subject.Unstored = ⊥
+
+-- it is a file in the pile of this number
+abbrev pub IsPileFile : ℕ → Subject → Type 0
+IsPileFile pile subject.General = ⊥
+IsPileFile pile (subject.Source at) = ⊥
+IsPileFile pile (subject.SetDirectory at) = ⊥
+IsPileFile pile (subject.SetFile at file) = ⊥
+IsPileFile pile (subject.PileFile at file) = at ≡ pile
+IsPileFile pile subject.Folder = ⊥
+IsPileFile pile (subject.InPile file) = ⊥
+IsPileFile pile subject.Directory = ⊥
+IsPileFile pile (subject.Image file) = ⊥
+IsPileFile pile (subject.ImageFolder file) = ⊥
+IsPileFile pile subject.List = ⊥
+IsPileFile pile subject.Unstored = ⊥
 
 -- why a run with these paths is refused when the command line is not at fault
 pub record IsOfWork (paths : ℕ) (refusal : Refusal) : Type 0 where

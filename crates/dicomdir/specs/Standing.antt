@@ -11,7 +11,7 @@ use Rattle.dd_version.specs.declared.parts.Parts.{Parts}
 use Rattle.dd_layout.specs.declared.record.PlanRecord.{PlanRecord}
 use Rattle.dd_layout.specs.Layouts.{Layout}
 use Rattle.dd_layout.specs.Plans.{records_of}
-use Rattle.dicomdir.specs.Made.{IsPlace, RealisesPlan, SaysPlan}
+use Rattle.dicomdir.specs.Made.{HasAtOne, IsPlace, RealisesPlan, SaysPlan}
 
 -- this is so of what the files held and of what they hold, where they say it
 abbrev pub IfSaid : (Held → Held → Type 0) → Option Held → Option Held → Type 0
@@ -23,15 +23,9 @@ IfSaid Holds (Some old) (Some new) = Holds old new
 pub record KeepsAll (old new : Held) : Type 0 where
   pub stays : (path bytes : List ℕ) → old.bytes_at path ≡ Some bytes → new.bytes_at path ≡ Some bytes
 
--- a file at one of these paths has these bytes
-pub record HasAtOne (From : List ℕ → Type 0) (bytes : List ℕ) (held : Held) : Type 0 where
-  pub from : List ℕ
-  pub picked : From from
-  pub there : held.bytes_at from ≡ Some bytes
-
--- The image of this record stands at its File ID in the folder, where no file stood. Its bytes are a file of the version
--- that is planned there, or those of a file at one of these paths.
-pub record Stands (From : List ℕ → Type 0) (folder : List ℕ) (versions : List Parts) (row : PlanRecord)
+-- The image of this record stands at its File ID in the folder, where no file stood. It has the bytes of a file at one of
+-- these paths. They are a file of the version that is planned there, or such as a hard link may have.
+pub record Stands (From MayLink : List ℕ → Type 0) (folder : List ℕ) (versions : List Parts) (row : PlanRecord)
     (old new : Held) : Type 0 where
   pub file : Ranks
   pub named : row.file ≡ Some file
@@ -42,14 +36,16 @@ pub record Stands (From : List ℕ → Type 0) (folder : List ℕ) (versions : L
   pub free : old.bytes_at path ≡ None
   pub bytes : List ℕ
   pub image : new.bytes_at path ≡ Some bytes
-  pub is : IsFileAs planned AsPlanned bytes ⊎ HasAtOne From bytes new
+  pub of_pick : HasAtOne From bytes (Some new)
+  pub is : IsFileAs planned AsPlanned bytes ⊎ MayLink bytes
 
 -- so do the images of all these records, each with its pick
-abbrev pub AllStand : {P : Type 0} → (P → List ℕ → Type 0) → List ℕ → List Parts → List (PlanRecord × P) → Held → Held
-    → Type 0
-AllStand From folder versions [] old new = Unit {0}
-AllStand From folder versions (row ∷ rows) old new =
-    Stands (From row.1) folder versions row.0 old new × AllStand From folder versions rows old new
+abbrev pub AllStand : {P : Type 0} → (P → List ℕ → Type 0) → (P → List ℕ → Type 0) → List ℕ → List Parts
+    → List (PlanRecord × P) → Held → Held → Type 0
+AllStand From MayLink folder versions [] old new = Unit {0}
+AllStand From MayLink folder versions (row ∷ rows) old new =
+    Stands (From row.1) (MayLink row.1) folder versions row.0 old new
+    × AllStand From MayLink folder versions rows old new
 
 -- the image of this record belongs at this path
 pub record BelongsAt (folder : List ℕ) (row : PlanRecord) (path : List ℕ) : Type 0 where
@@ -68,10 +64,10 @@ picked_rows plan picks = zip (filter (λ row. is_some row.file) (records_of plan
 
 -- The file-set of this plan stands in the folder: all its images and its directory (PS3.10 section 8.6). What stood
 -- before is as it was, and nothing else was made.
-pub record StandsWhole {P : Type 0} (From : P → List ℕ → Type 0) (folder : List ℕ) (plan : Layout) (picks : List P)
-    (old new : Held) : Type 0 where
+pub record StandsWhole {P : Type 0} (From MayLink : P → List ℕ → Type 0) (folder : List ℕ) (plan : Layout)
+    (picks : List P) (old new : Held) : Type 0 where
   pub stays : KeepsAll old new
-  pub images : AllStand From folder plan.versions (picked_rows plan picks) old new
+  pub images : AllStand From MayLink folder plan.versions (picked_rows plan picks) old new
   pub path : List ℕ
   pub place : IsPathIn folder (codes "DICOMDIR") path
   pub free : old.bytes_at path ≡ None

@@ -8,12 +8,15 @@ use Rattle.dd_line.specs.Line.{dicomdir_app, words_of}
 use Rattle.dd_line.specs.Requests.{RequestsBadName, keeps_going, read_of, verb_of}
 use Rattle.dd_line.specs.declared.line.Verb.TheVariants as verbs
 use Rattle.dd_line.specs.declared.request.Request.{Request}
-use Rattle.dd_line.specs.declared.request.Request.TheVariants.{Check, Index, List as ListSet, Merge, Withdraw}
+use Rattle.dd_line.specs.declared.request.Request.TheVariants.{Check, Index, List as ListSet, Merge, Publish, Stage, Withdraw}
+use Rattle.dicomdir.specs.From.{from_text, looked_up}
 use Rattle.dicomdir.specs.Indexes.{MakesIndex}
 use Rattle.dicomdir.specs.Inspecting.{style_by}
 use Rattle.dicomdir.specs.ListedNames.{AreSources, list_of}
 use Rattle.dicomdir.specs.Merges.{MakesMerge}
 use Rattle.dicomdir.specs.Prints.{PrintsIndex, PrintsMerge}
+use Rattle.dicomdir.specs.Publishes.{MakesPublish, PrintsPublish}
+use Rattle.dicomdir.specs.Stages.{Stages}
 
 -- the program takes the words
 abbrev pub IsTaken : {Z : Type 0} → List (String Z) → Type 0
@@ -39,8 +42,8 @@ pub record IsRequestStatus (request : Request) (status : ℕ) : Type 0 where
   pub bad : status ≡ 2 → RequestsBadName request
   pub good : status ≡ 0 → ¬ RequestsBadName request
 
--- What a request makes of these sources, under this label and without these instances. Only `index` and `merge` may have
--- sources that the line does not name.
+-- What a request makes of these sources, under this label and without these instances. Only a command that takes a list
+-- of names may have sources that the line does not name. What `stage` makes, it says as well.
 abbrev pub MakesOf : Request → Choice → List Text → List Text → ℕ → Option Held → Option Held → Type 0
 MakesOf (Index x) choice withdrawn sources status old new =
     MakesIndex choice x.new_set.max_bytes sources (string_bytes x.new_set.out) status old new
@@ -48,6 +51,9 @@ MakesOf (Merge x) choice withdrawn sources status old new =
     MakesMerge choice x.new_set.max_bytes [] sources (x.link ≡ true) (string_bytes x.new_set.out) old new
 MakesOf (Withdraw x) choice withdrawn sources status old new = MakesMerge choice x.new_set.max_bytes withdrawn
     (string_bytes x.set ∷ []) ⊥ (string_bytes x.new_set.out) old new
+MakesOf (Stage x) choice withdrawn sources status old new = Unit {0}
+MakesOf (Publish x) choice withdrawn sources status old new = MakesPublish choice x.new_set.max_bytes sources
+    (x.link ≡ true) (looked_up (from_text x.from) (string_bytes x.new_set.out)) old new
 MakesOf (Check x) choice withdrawn sources status old new = Unit {0}
 MakesOf (ListSet x) choice withdrawn sources status old new = Unit {0}
 
@@ -68,6 +74,9 @@ SaysOf writer (Merge x) choice withdrawn sources status files old new = PrintsMe
 SaysOf writer (Withdraw x) choice withdrawn sources status files old new =
     PrintsMerge writer (style_by x.new_set.json) x.new_set.dry_run x.new_set.strict choice x.new_set.max_bytes withdrawn
     (string_bytes x.set ∷ []) files old new
+SaysOf writer (Stage x) choice withdrawn sources status files old new = Unit {0}
+SaysOf writer (Publish x) choice withdrawn sources status files old new = PrintsPublish writer
+    (style_by x.new_set.json) x.new_set.dry_run x.new_set.strict choice x.new_set.max_bytes sources files old new
 SaysOf writer (Check x) choice withdrawn sources status files old new = Unit {0}
 SaysOf writer (ListSet x) choice withdrawn sources status files old new = Unit {0}
 
@@ -77,3 +86,21 @@ pub record SaysRequested {W : Type 0} (writer : WriteOf W) (r : Request) (choice
   pub sources : List Text
   pub are : AreSources (keeps_going r) (list_of r) (words_of (read_of r)) files sources
   pub says : SaysOf writer r choice withdrawn sources status files old new
+
+-- what a request that stages makes and prints of the sources of these names
+abbrev pub StagesOf : {W : Type 0} → WriteOf W → Request → List Text → Option Held → Option Held → W → W → Type 0
+StagesOf writer (Index x) names files made old new = Unit {0}
+StagesOf writer (Merge x) names files made old new = Unit {0}
+StagesOf writer (Withdraw x) names files made old new = Unit {0}
+StagesOf writer (Stage x) names files made old new =
+    Stages writer (style_by x.json) (from_text x.from) (string_bytes x.pile) names files made old new
+StagesOf writer (Publish x) names files made old new = Unit {0}
+StagesOf writer (Check x) names files made old new = Unit {0}
+StagesOf writer (ListSet x) names files made old new = Unit {0}
+
+-- the same of the paths that it reads and, after them, the names of its list
+pub record StagesRequested {W : Type 0} (writer : WriteOf W) (r : Request) (files made : Option Held) (old new : W)
+    : Type 0 where
+  pub names : List Text
+  pub are : AreSources (keeps_going r) (list_of r) (words_of (read_of r)) files names
+  pub staged : StagesOf writer r names files made old new

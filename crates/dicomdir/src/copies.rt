@@ -1,9 +1,11 @@
 //! The images of a file-set, in its folder: copies of files, or hard links to them.
 ghost use Rattle.std.specs.Prelude.{◌≡◌, ◌<◌, ℕ, All, IfErr, IfOk, IsOk, length, option_map};
 ghost use Rattle.dd_files.specs.Files.{ended};
+ghost use Rattle.dd_filing.specs.declared.places.Ahead.TheVariants as known;
 ghost use Rattle.dd_layout.specs.Plans.{records_of};
-ghost use Rattle.dicomdir.specs.Made.{Copies, CopiesImage, MakesImage, MakesImages, MayLink, StartsImage};
+ghost use Rattle.dicomdir.specs.Made.{Copies, CopiesImage, MakesImage, MakesImages, StartsImage};
 ghost use Rattle.dicomdir.specs.Claims.{IsRefusedAs};
+ghost use Rattle.dicomdir.specs.ReadingAhead.{IsKnown, KnowsNext, ReadsNext};
 ghost use Rattle.dicomdir.specs.Refusal.{IsAmong, IsMemory, IsOfWork};
 
 use crate::file_set::FileSet;
@@ -13,7 +15,7 @@ use crate::origins::Origins;
 use crate::refusal::{ProgramFault, Refusal, Subject};
 use dd_elem::FileId;
 use dd_files::{Files, Progress, SOURCE_LIMIT, Step, file_path};
-use dd_filing::{Ahead, FileAhead, Filed, FilesAhead, FilingFault, file_image};
+use dd_filing::{AHEAD_LIMIT, Ahead, FileAhead, Filed, FilesAhead, FilingFault, file_image};
 use dd_layout::PlanRecord;
 use std::alloc::Global;
 
@@ -34,10 +36,10 @@ pub(crate) fn copy_images<F: Files + Progress, O: Origins>(
     requires { All (O.has set.now.origins.now) set.now.picks.now }
     ensures refusal { IfErr result (IsOfWork (O.paths set.now.origins.now)) }
 
-    // Where the files say what they hold, an image was made for each pick, as a file of its planned version, or it is
-    // the file of the pick. All other files are as they were.
+    // Where the files say what they hold, an image was made of the file of each pick, as a file of its planned version
+    // or as a hard link. All other files are as they were.
     ensures made { IsOk result → MakesImages
-        (MayLink (O.gives_links set.now.origins.now) (O.stands_at set.now.origins.now))
+        (O.stands_at set.now.origins.now) (O.may_link set.now.origins.now)
         set.now.folder.now set.now.plan.now.versions
         (records_of set.now.plan.now.label set.now.plan.now.versions) set.now.picks.now
         (F.held files.old) (F.held files.new) }
@@ -63,12 +65,16 @@ fn copy_record<F: Files + Progress, O: Origins>(
 ) -> Result<(), Refusal>
     requires has { All (O.has set.now.origins.now) left.old.picks.now }
     requires within { row.now.of < length set.now.plan.now.versions }
+    requires known { KnowsNext (O.stands_at set.now.origins.now) left.old.picks.now left.old.ahead
+        (F.held files.old) }
     ensures refusal { IfErr result (IsOfWork (O.paths set.now.origins.now)) }
     ensures has { IsOk result → All (O.has set.now.origins.now) left.new.picks.now }
     ensures copied { IsOk result → Copies
-        (MayLink (O.gives_links set.now.origins.now) (O.stands_at set.now.origins.now))
+        (O.stands_at set.now.origins.now) (O.may_link set.now.origins.now)
         set.now.folder.now set.now.plan.now.versions row.now left.old.picks.now left.new.picks.now
         (F.held files.old) (F.held files.new) }
+    ensures known { IsOk result → KnowsNext (O.stands_at set.now.origins.now) left.new.picks.now
+        left.new.ahead (F.held files.new) }
 {
     match (row.file, left.picks) {
         (Some(file), [pick, later @ ..]) => {
@@ -100,23 +106,43 @@ fn read_ahead<F: Files, O: Origins>(
     ahead: &mut FilesAhead,
     files: &mut F,
 )
-    requires { All (O.has origins.now) picks.now }
-    ensures { F.held files.new ≡ F.held files.old }
+    requires has { All (O.has origins.now) picks.now }
+    requires known { KnowsNext (O.stands_at origins.now) picks.now ahead.old (F.held files.old) }
+    ensures known { KnowsNext (O.stands_at origins.now) picks.now ahead.new (F.held files.new) }
+    ensures kept { F.held files.new ≡ F.held files.old }
 {
     if origins.gives_links() || !ahead.is_past() {
         return;
     }
-    ahead.clear();
     let lanes = files.lanes();
-    let near = picks.len().min(lanes.count());
-    for pick in &picks[..near] {
-        match open(alloc, origins, *pick, files) {
-            Ok(mut reader) => ahead.read(alloc, &mut reader),
-            Err(refusal) if refusal.fault == ProgramFault::Absent => ahead.refuse(),
-            Err(_) => ahead.skip(),
+    ahead.release(lanes);
+    for pick in picks {
+        if ahead.is_enough(lanes) {
+            break;
         }
+        read_next(alloc, origins, *pick, ahead, files);
     }
     ahead.digest(lanes);
+}
+
+fn read_next<F: Files, O: Origins>(
+    alloc: Global,
+    origins: &O,
+    pick: O::Pick,
+    ahead: &mut FilesAhead,
+    files: &mut F,
+)
+    requires has { O.has origins.now pick }
+    requires room { length ahead.old.files < 8 }
+    ensures read { ReadsNext (O.stands_at origins.now pick) (F.held files.new) ahead.old ahead.new }
+    ensures kept { F.held files.new ≡ F.held files.old }
+{
+    match open(alloc, origins, pick, files) {
+        Ok(reader) if files.said_size(&reader) > AHEAD_LIMIT => ahead.skip(),
+        Ok(mut reader) => ahead.read(alloc, &mut reader),
+        Err(refusal) if refusal.fault == ProgramFault::Absent => ahead.refuse(),
+        Err(_) => ahead.skip(),
+    }
 }
 
 fn make_image<F: Files + Progress, O: Origins>(
@@ -125,11 +151,13 @@ fn make_image<F: Files + Progress, O: Origins>(
     ahead: Ahead<'_>,
     files: &mut F,
 ) -> Result<(), Refusal>
-    requires { O.has image.now.origins.now image.now.pick }
+    requires has { O.has image.now.origins.now image.now.pick }
+    requires known { IsKnown (O.stands_at image.now.origins.now image.now.pick) ahead
+        (F.held files.old) }
     ensures refusal { IfErr result (IsOfWork (O.paths image.now.origins.now)) }
     ensures made { IsOk result → MakesImage
-        (MayLink (O.gives_links image.now.origins.now) (O.stands_at image.now.origins.now)
-        image.now.pick)
+        (O.stands_at image.now.origins.now image.now.pick)
+        (O.may_link image.now.origins.now image.now.pick)
         image.now.folder.now image.now.file image.now.planned.now
         (F.held files.old) (F.held files.new) }
 {
@@ -145,10 +173,13 @@ fn copy_image<F: Files + Progress, O: Origins>(
     ahead: Ahead<'_>,
     files: &mut F,
 ) -> Result<(), Refusal>
-    requires { O.has image.now.origins.now image.now.pick }
+    requires has { O.has image.now.origins.now image.now.pick }
+    requires known { IsKnown (O.stands_at image.now.origins.now image.now.pick) ahead
+        (F.held files.old) }
     ensures refusal { IfErr result (IsOfWork (O.paths image.now.origins.now)) }
     ensures made { IsOk result
-        → CopiesImage image.now.folder.now image.now.file image.now.planned.now
+        → CopiesImage (O.stands_at image.now.origins.now image.now.pick)
+        image.now.folder.now image.now.file image.now.planned.now
         (F.held files.old) (F.held files.new) }
 {
     match ahead {
@@ -167,10 +198,13 @@ fn copy_ahead<F: Files + Progress, O: Origins>(
     ahead: &FileAhead<'_>,
     files: &mut F,
 ) -> Result<(), Refusal>
-    requires { O.has image.now.origins.now image.now.pick }
+    requires has { O.has image.now.origins.now image.now.pick }
+    requires known { IsKnown (O.stands_at image.now.origins.now image.now.pick)
+        (known.File ahead.now) (F.held files.old) }
     ensures refusal { IfErr result (IsOfWork (O.paths image.now.origins.now)) }
     ensures made { IsOk result
-        → CopiesImage image.now.folder.now image.now.file image.now.planned.now
+        → CopiesImage (O.stands_at image.now.origins.now image.now.pick)
+        image.now.folder.now image.now.file image.now.planned.now
         (F.held files.old) (F.held files.new) }
 {
     start_copy(alloc, image.folder, image.file, files)?;
@@ -188,7 +222,8 @@ fn copy_streamed<F: Files + Progress, O: Origins>(
     requires { O.has image.now.origins.now image.now.pick }
     ensures refusal { IfErr result (IsOfWork (O.paths image.now.origins.now)) }
     ensures made { IsOk result
-        → CopiesImage image.now.folder.now image.now.file image.now.planned.now
+        → CopiesImage (O.stands_at image.now.origins.now image.now.pick)
+        image.now.folder.now image.now.file image.now.planned.now
         (F.held files.old) (F.held files.new) }
 {
     let mut reader = open(alloc, image.origins, image.pick, files)?;

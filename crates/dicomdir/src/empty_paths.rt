@@ -1,9 +1,8 @@
-ghost use Rattle.std.specs.Prelude.{◌≡◌, ◌<◌, ℕ, [], None, Some, IfSome, length, string_bytes};
+ghost use Rattle.std.specs.Prelude.{◌≡◌, ◌<◌, ℕ, [], None, Some, IfSome, length};
 ghost use Rattle.dicomdir.specs.EmptyPaths.{IsEmptyAt, IsFirstEmpty};
 ghost use Rattle.dicomdir.specs.Refusal.{IsOfWork};
 
 use crate::refusal::{ProgramFault, Refusal, Subject};
-use dd_line::NewSet;
 
 pub(crate) fn first_empty(paths: &[String]) -> Option<usize>
     ensures empty { IfSome result (IsEmptyAt paths.now) }
@@ -19,22 +18,22 @@ pub(crate) fn first_empty(paths: &[String]) -> Option<usize>
     None
 }
 
-/// Gives the refusal of a request with an empty path: of the folder of the new file-set, or else of the first of these
+/// Gives the refusal of a request with an empty path: of the folder that it writes to, or else of the first of these
 /// paths.
-pub(crate) fn empty_path(new_set: Option<&NewSet>, sources: &[String]) -> Option<Refusal>
-    ensures folder { IfSome new_set.entry (λ set. string_bytes set.now.out ≡ []
+pub(crate) fn empty_path(folder: Option<&str>, sources: &[String]) -> Option<Refusal>
+    ensures folder { IfSome folder.entry (λ folder. folder.now ≡ []
         → result ≡ Some (record { subject = Subject.Folder; fault = ProgramFault.Folder })) }
-    ensures source { IfSome new_set.entry (λ set. ¬ (string_bytes set.now.out ≡ []))
+    ensures source { IfSome folder.entry (λ folder. ¬ (folder.now ≡ []))
         → (at : ℕ) → IsFirstEmpty sources.now at
         → result ≡ Some (record { subject = Subject.Source at; fault = ProgramFault.Absent }) }
-    ensures none { IfSome new_set.entry (λ set. ¬ (string_bytes set.now.out ≡ []))
+    ensures none { IfSome folder.entry (λ folder. ¬ (folder.now ≡ []))
         → ((at : ℕ) → ¬ IsEmptyAt sources.now at) → result ≡ None }
     ensures work { IfSome result (λ refusal. IsOfWork (length sources.now) refusal) }
-    ensures folders { result ≡ None → IfSome new_set.entry (λ set. ¬ (string_bytes set.now.out ≡ [])) }
+    ensures folders { result ≡ None → IfSome folder.entry (λ folder. ¬ (folder.now ≡ [])) }
     ensures sources { result ≡ None → (at : ℕ) → ¬ IsEmptyAt sources.now at }
 {
-    if let Some(set) = new_set
-        && set.out.is_empty()
+    if let Some(folder) = folder
+        && folder.is_empty()
     {
         return Some(Refusal::of(Subject::Folder, ProgramFault::Folder));
     }

@@ -2,7 +2,7 @@ ghost use Rattle.std.specs.Prelude.{◌≡◌, ℕ, All, IfErr, IsErr, IsOk, opt
 ghost use Rattle.dd_dir.specs.Directories.{directory_of};
 ghost use Rattle.dd_elem.specs.Device.{counted, HasFailed};
 ghost use Rattle.dd_files.specs.Files.{ended, grown, published, started};
-ghost use Rattle.dicomdir.specs.Made.{IsFree, MakesFileSet, MayLink, RealisesPlan, SaysPlan};
+ghost use Rattle.dicomdir.specs.Made.{IsFree, MakesFileSet, RealisesPlan, SaysPlan};
 ghost use Rattle.dicomdir.specs.Refusal.{IsBadLine, IsOfWork};
 
 use crate::copies::copy_images;
@@ -51,7 +51,7 @@ pub(crate) fn write_file_set<F: Files + Progress, O: Origins>(
     // Where the files say what they hold, an image was made for each pick, and then the directory.
     ensures made { IsOk result
         → MakesFileSet
-        (MayLink (O.gives_links set.now.origins.now) (O.stands_at set.now.origins.now))
+        (O.stands_at set.now.origins.now) (O.may_link set.now.origins.now)
         set.now.folder.now set.now.plan.now set.now.picks.now
         (F.held files.old) (F.held files.new) }
 {
@@ -82,7 +82,7 @@ fn store<F: Files>(files: &mut F) -> Result<(), Refusal>
     }
 }
 
-#[tactic(auto, using(crate::proofs::Publishing::held_published))]
+#[tactic(auto, using(crate::proofs::HeldPublished::held_published))]
 fn make_directory<F: Files>(path: &str, plan: &Plan, files: &mut F) -> Result<(), ProgramFault>
     ensures line { IfErr result (λ fault. ¬ IsBadLine fault) }
     ensures free { IsOk result → IsFree path.now (F.held files.old) }

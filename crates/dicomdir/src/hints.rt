@@ -90,15 +90,18 @@ fn is_of_system(fault: &ProgramFault) -> bool {
 fn path_of<'a>(subject: &Subject, paths: Paths<'a>) -> &'a str {
     match subject {
         Subject::General => "",
-        Subject::Source(at) | Subject::SetDirectory(at) | Subject::SetFile(at, _) => {
-            match paths.sources.get(*at) {
-                Some(path) => path.as_str(),
-                None => "",
-            }
-        }
-        Subject::Folder | Subject::Directory | Subject::Image(_) | Subject::ImageFolder(_) => {
-            paths.folder
-        }
+        Subject::Source(at)
+        | Subject::SetDirectory(at)
+        | Subject::SetFile(at, _)
+        | Subject::PileFile(at, _) => match paths.sources.get(*at) {
+            Some(path) => path.as_str(),
+            None => "",
+        },
+        Subject::Folder
+        | Subject::InPile(_)
+        | Subject::Directory
+        | Subject::Image(_)
+        | Subject::ImageFolder(_) => paths.folder,
         Subject::List => paths.list,
         Subject::Unstored => paths.unstored,
     }
@@ -114,6 +117,7 @@ fn first_step<F: Hints>(refusal: &Refusal, path: &str, files: &F) -> FirstStep {
         ProgramFault::Absent => step_of_absent(&refusal.subject, path, files),
         ProgramFault::Unread => step_of_unread(&refusal.subject, path, files),
         ProgramFault::Changed => step_of_changed(&refusal.subject),
+        ProgramFault::Create => FirstStep::Words(step_of_create(&refusal.subject)),
         fault => FirstStep::Words(step_of(fault)),
     }
 }
@@ -124,15 +128,27 @@ fn step_of(fault: &ProgramFault) -> &'static str {
         ProgramFault::Uid(_) => "a UID has up to 64 digits and dots, and no number such as 02",
         ProgramFault::SetId(_) => "an ID has up to 16 characters of A to Z, 0 to 9 and _",
         ProgramFault::TooLong => "leave it out, or make two lists",
+        ProgramFault::ListTooLarge => "make two piles, each of some of the sources",
+        ProgramFault::BadStage(_) =>
+            "its stage has not ended with status 0: remove the pile and stage it anew",
         ProgramFault::Own(_) => {
             "only a DICOMDIR of this program can be merged: index the images of the set instead"
         }
-        ProgramFault::Create => "take a new folder: OUT has a file-set, or files of an earlier run",
         ProgramFault::Folder => "take a new folder, below one where you may write",
         ProgramFault::Unsent => "make room, and take a new folder; df and df -i show what is free",
         ProgramFault::Strict => "mend or leave out what the lines name, or run without --strict",
         ProgramFault::BadName(_) => "end each name by a zero byte, as find -print0 does",
         _ => "free memory, or make two file-sets",
+    }
+}
+
+/// A pile is the folder that is made only where it is named as such or by what is in it.
+fn step_of_create(subject: &Subject) -> &'static str {
+    match subject {
+        Subject::Folder | Subject::InPile(_) => {
+            "take a new folder: PILE is there, maybe from an earlier run"
+        }
+        _ => "take a new folder: OUT has a file-set, or files of an earlier run",
     }
 }
 
@@ -165,6 +181,9 @@ fn step_of_absent<F: Hints>(subject: &Subject, path: &str, files: &F) -> FirstSt
         Subject::SetFile(_, _) => {
             FirstStep::WithPath("dicomdir check ", " names each file that is not there")
         }
+        Subject::PileFile(_, _) => {
+            FirstStep::Words("PILE is a folder that stage made; stage it anew where files are gone")
+        }
         _ => FirstStep::WithPath("is the name right, and may you read it? ls -lb ", ""),
     }
 }
@@ -186,6 +205,9 @@ fn step_of_changed(subject: &Subject) -> FirstStep {
                 "dicomdir check --keys ",
                 " says which files differ, and by what",
             )
+        }
+        Subject::PileFile(_, _) => {
+            FirstStep::Words("the pile was changed: remove it and stage its sources anew")
         }
         _ => FirstStep::Words("run again when nobody writes to the file"),
     }

@@ -11,6 +11,9 @@ const PATH_LENGTH: usize = 4 * COMPONENT + 3;
 /// The part of it before the last component and its separator.
 const FOLDER_LENGTH: usize = 3 * COMPONENT + 2;
 
+/// How many copies are in one folder of a pile.
+const FOLDER_COPIES: usize = 1000;
+
 pub(crate) type ImagePathText = InlineText<PATH_LENGTH>;
 
 /// Shows the path of an image in its file-set: its File ID, with `/` between the components (PS3.10 section 8.2).
@@ -45,6 +48,29 @@ pub(crate) struct IdPath<'a>(pub(crate) &'a [u8]);
 impl fmt::Display for IdPath<'_> {
     fn fmt<W: fmt::Write>(&self, f: &mut fmt::Formatter<W>) -> fmt::Result {
         write_path(self.0, self.0.len(), f)
+    }
+}
+
+/// Shows the path of a copy in its pile, by the number of its source, from 1.
+#[derive(Clone, Copy)]
+pub(crate) struct PilePath(pub(crate) usize);
+
+impl fmt::Display for PilePath {
+    fn fmt<W: fmt::Write>(&self, f: &mut fmt::Formatter<W>) -> fmt::Result {
+        let number = self.0;
+        let folder = number / FOLDER_COPIES;
+        write!(f, "{folder:03}/{number:06}")
+    }
+}
+
+/// Shows the path of the folder of that copy in the pile.
+#[derive(Clone, Copy)]
+pub(crate) struct PileFolder(pub(crate) usize);
+
+impl fmt::Display for PileFolder {
+    fn fmt<W: fmt::Write>(&self, f: &mut fmt::Formatter<W>) -> fmt::Result {
+        let folder = self.0 / FOLDER_COPIES;
+        write!(f, "{folder:03}")
     }
 }
 

@@ -1,13 +1,15 @@
 //! An image of a file-set: its file, its folder, and how it is stored.
-ghost use Rattle.std.specs.Prelude.{◌≡◌, ℕ, IfErr, IsErr};
+ghost use Rattle.std.specs.Prelude.{◌≡◌, ℕ, IfErr, IfOk, IsErr};
 ghost use Rattle.dd_elem.specs.Device.{counted};
+ghost use Rattle.dd_files.specs.Files.{IsUnread};
+ghost use Rattle.dicomdir.specs.ReadingAhead.{OpensOne};
 ghost use Rattle.dicomdir.specs.Refusal.{IsOfWork};
 
 use crate::image_path::{ImageFolder, ImagePathText};
-use crate::origins::Origins;
+use crate::origins::{Lookup, Origins};
 use crate::refusal::{ProgramFault, Refusal, Subject};
 use dd_elem::FileId;
-use dd_files::{Files, path_in};
+use dd_files::{Files, NotThere, path_in};
 use dd_version::Version;
 use std::alloc::Global;
 
@@ -32,16 +34,25 @@ pub(crate) fn open<F: Files, O: Origins>(
 ) -> Result<F::In, Refusal>
     requires { O.has origins.now pick }
     ensures refusal { IfErr result (IsOfWork (O.paths origins.now)) }
+    ensures opened { IfOk result
+        (OpensOne F.In.Read (O.stands_at origins.now pick) (F.held files.old)) }
     ensures kept { F.held files.new ≡ F.held files.old }
 {
     let path = origins.path(alloc, pick)?;
-    let opened = match origins.set(pick) {
-        Some(set) => files.member(set, path.as_str()),
-        None => files.source(path.as_str()),
-    };
-    match opened {
+    match open_at(origins.lookup(pick), path.as_str(), files) {
         Ok(reader) => Ok(reader),
         Err(_) => Err(Refusal::of(origins.subject(pick), ProgramFault::Absent)),
+    }
+}
+
+fn open_at<F: Files>(lookup: Lookup<'_>, path: &str, files: &mut F) -> Result<F::In, NotThere>
+    ensures opened { IfOk result (IsUnread F.In.Read (F.held files.old) path.now) }
+    ensures kept { F.held files.new ≡ F.held files.old }
+{
+    match lookup {
+        Lookup::Source => files.source(path),
+        Lookup::Member(set) => files.member(set, path),
+        Lookup::Stored(_) => files.exact_file(path),
     }
 }
 

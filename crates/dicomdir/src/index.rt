@@ -137,13 +137,13 @@ fn has_failed(skipped: &[(usize, KeyFault)]) -> bool
     skipped.iter().any(|skip| matches!(skip.1, KeyFault::Read))
 }
 
-fn is_noted(noted: &NotedIndex) -> bool
+pub(crate) fn is_noted(noted: &NotedIndex) -> bool
     ensures { IsTrue result ↔ IsNotedIndex noted.now }
 {
     !noted.indexed.skipped.is_empty() || has_notes(&noted.notes)
 }
 
-fn tell_noted<O: Write>(
+pub(crate) fn tell_noted<O: Write>(
     past: &PastFailures,
     sources: &[String],
     bad_names: &[usize],

@@ -29,7 +29,9 @@ mod names;
 mod note_json;
 mod note_lines;
 mod origins;
+mod piles;
 mod program;
+mod publishing;
 mod refusal;
 mod set_directory;
 mod set_note_lines;
@@ -38,7 +40,9 @@ mod shell_path;
 mod shown_path;
 mod source_counts;
 mod source_paths;
+mod staging;
 mod sum;
+mod telling;
 
 pub use dd_engine::{
     Choice, ConflictingFiles, EngineFault, Indexed, LeftOut, MergeFault, Merged, NotedFault,
@@ -56,6 +60,7 @@ pub use dd_lines::{print_line, send_text};
 pub use dd_report::{Comparison, Finding, finding_of};
 pub use dd_slots::Lanes;
 pub use laws::{
+    a_merge_of_parts_is_the_whole, a_published_pile_is_the_index_of_its_sources,
     a_set_merged_again_keeps_its_directory, each_kept_instance_is_visited_once,
     same_versions_leave_one_directory,
 };

@@ -12,6 +12,8 @@ pub(crate) fn is_quiet(request: &Request) -> bool {
         Request::Index(index) => index.new_set.quiet,
         Request::Merge(merge) => merge.new_set.quiet,
         Request::Withdraw(withdraw) => withdraw.new_set.quiet,
+        Request::Stage(stage) => stage.quiet,
+        Request::Publish(publish) => publish.new_set.quiet,
         Request::Check(check) => check.quiet,
         Request::List(_) => false,
     }
@@ -22,6 +24,8 @@ pub(crate) fn is_verbose(request: &Request) -> bool {
         Request::Index(index) => index.new_set.verbose,
         Request::Merge(merge) => merge.new_set.verbose,
         Request::Withdraw(withdraw) => withdraw.new_set.verbose,
+        Request::Stage(stage) => stage.verbose,
+        Request::Publish(publish) => publish.new_set.verbose,
         Request::Check(check) => check.verbose,
         Request::List(list) => list.verbose,
     }
@@ -35,6 +39,8 @@ pub(crate) fn style_of(request: &Request) -> Style
         Request::Index(index) => index.new_set.json,
         Request::Merge(merge) => merge.new_set.json,
         Request::Withdraw(withdraw) => withdraw.new_set.json,
+        Request::Stage(stage) => stage.json,
+        Request::Publish(publish) => publish.new_set.json,
         Request::Check(check) => check.json,
         Request::List(list) => list.json,
     };

@@ -104,7 +104,7 @@ fn add_name(
 }
 
 /// Writes `?` for each byte outside 20H to 7EH.
-fn masked(alloc: Global, name: &[u8]) -> Result<String, Memory> {
+pub(crate) fn masked(alloc: Global, name: &[u8]) -> Result<String, Memory> {
     let mut shown = String::with_capacity(alloc, name.len())?;
     for byte in name {
         let is_shown = (b' '..=b'~').contains(byte);

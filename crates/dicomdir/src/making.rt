@@ -4,7 +4,7 @@ ghost use Rattle.dd_layout.specs.Plans.{size};
 ghost use Rattle.dd_lines.specs.Text.{TakesText};
 ghost use Rattle.dicomdir.specs.Done.{counts_words, ending_text, images_text, images_words, word_of};
 ghost use Rattle.dicomdir.specs.Inspecting.{style_by};
-ghost use Rattle.dicomdir.specs.Made.{MakesFileSet, MayLink};
+ghost use Rattle.dicomdir.specs.Made.{MakesFileSet};
 ghost use Rattle.dicomdir.specs.Prints.{size_of};
 ghost use Rattle.dicomdir.specs.Refusal.{IsOfWork};
 ghost use Rattle.dicomdir.specs.declared.making.Ending.TheVariants.{Done};
@@ -119,7 +119,7 @@ pub(crate) fn make_file_set<F: Files + Progress, O: Origins, W: Write>(
     ensures refusal { IfErr result (IsOfWork (O.paths set.now.origins.now)) }
     ensures status { IfOk result (λ status. status ≤ 1) }
     ensures made { IsOk result → MakesFileSet
-        (MayLink (O.gives_links set.now.origins.now) (O.stands_at set.now.origins.now))
+        (O.stands_at set.now.origins.now) (O.may_link set.now.origins.now)
         set.now.folder.now set.now.plan.now set.now.picks.now
         (F.held files.old) (F.held files.new) }
     ensures printed { IfOk result (λ status. status ≡ 0 → TakesText W.Write out.old out.new
@@ -157,7 +157,7 @@ fn print_counts<O: Write>(ending: Ending, instances: u64, bytes: u64, out: &mut 
 }
 
 /// Gives the status: 1 where the output failed.
-fn status_of(printed: fmt::Result) -> u8
+pub(crate) fn status_of(printed: fmt::Result) -> u8
     ensures status { (result ≡ 0) ⊎ (result ≡ 1) }
     ensures zero { result ≡ 0 → IsOk printed }
     ensures one { result ≡ 1 → IsErr printed }

@@ -6,7 +6,7 @@ ghost use Rattle.dd_engine.specs.Merging.{IsNamedSet};
 ghost use Rattle.dd_engine.specs.Noting.{IsBelow};
 ghost use Rattle.dd_line.specs.Line.{words_of};
 ghost use Rattle.dd_lines.specs.Text.{TakesText};
-ghost use Rattle.dicomdir.specs.Made.{IsMemberPath, MakesFileSet, MayLink};
+ghost use Rattle.dicomdir.specs.Made.{IsMemberPath, MakesFileSet};
 ghost use Rattle.dicomdir.specs.Merges.{DoneMerges};
 ghost use Rattle.dicomdir.specs.Noted.{IsNoted, NamesBelow};
 ghost use Rattle.dicomdir.specs.Prints.{PrintsMerge, last_line};
@@ -182,7 +182,7 @@ fn write_noted<'a, F: Files + Progress + Hints, O: Write>(
         × (F.held files.new ≡ F.held files.old) }
     ensures made { making.entry.dry_run ≡ false → IfOk result (λ status. status ≡ 0
         → MakesFileSet
-        (MayLink (sets.now.link ≡ true) (IsMemberPath (words_of sets.now.folders.now)))
+        (IsMemberPath (words_of sets.now.folders.now)) (λ _ _. sets.now.link ≡ true)
         making.entry.folder.now noted.now.merged.plan noted.now.merged.picks.items
         (F.held files.old) (F.held files.new)) }
     ensures printed { IfOk result (λ status. status ≡ 0 → (notes : List ℕ)

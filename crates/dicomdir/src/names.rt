@@ -38,7 +38,12 @@ fn instances_in(request: &Request) -> &[String]
 {
     match request {
         Request::Withdraw(withdraw) => withdraw.instances.as_slice(),
-        Request::Index(_) | Request::Merge(_) | Request::Check(_) | Request::List(_) => &[],
+        Request::Index(_)
+        | Request::Merge(_)
+        | Request::Stage(_)
+        | Request::Publish(_)
+        | Request::Check(_)
+        | Request::List(_) => &[],
     }
 }
 

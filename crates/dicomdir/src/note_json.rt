@@ -5,11 +5,13 @@ ghost use Rattle.dd_json.specs.Values.{json_line, value_of};
 ghost use Rattle.dd_lines.specs.Text.{TakesText, joined};
 ghost use Rattle.dicomdir.specs.Done.{counts_json, images_json};
 ghost use Rattle.dicomdir.specs.Said.{left_out_json, names_json, skip_json, unlisted_json, unreached_json};
+ghost use Rattle.dicomdir.specs.Stages.{staged_json};
 ghost use Rattle.serde_json.specs.Data.{Data};
 
 use crate::fault_json::FaultWords;
 use dd_elem::{Key, Write};
 use dd_json::{Json, print_json};
+use dd_pile::StageSum;
 use std::fmt;
 
 /// The most names of a Patient ID that are shown.
@@ -240,6 +242,23 @@ pub(crate) fn print_images<O: Write>(
             ("instances", Json::Number(instances)),
             ("bytes", Json::Number(bytes)),
             ("image_bytes", Json::Number(images)),
+        ]),
+        out,
+    )
+}
+
+/// Prints how many sources a pile has, how many of them have no version, and how many bytes the others have.
+pub(crate) fn print_staged<O: Write>(sum: &StageSum, out: &mut O) -> fmt::Result
+    ensures told { OnOk result (TakesText O.Write out.old out.new (json_line (staged_json sum.now))) }
+    ensures worked { IsOk result → O.failures out.new ≡ O.failures out.old }
+    ensures failed { IsErr result → HasFailed (O.failures out.old) (O.failures out.new) }
+{
+    print_json(
+        &Json::Object(&[
+            ("line", Json::Text("DONE")),
+            ("sources", Json::Number(sum.sources as u64)),
+            ("skipped", Json::Number(sum.skipped as u64)),
+            ("image_bytes", Json::Number(sum.bytes)),
         ]),
         out,
     )

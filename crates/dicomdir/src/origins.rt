@@ -1,15 +1,29 @@
-ghost use Rattle.std.specs.Prelude.{◌≡◌, ◌<◌, ℕ, List, IfOk, IfSome, length, map, string_bytes, true};
+ghost use Rattle.std.specs.Prelude.{◌≡◌, ◌<◌, ℕ, List, IfOk, length, map, string_bytes, true};
 ghost use Rattle.dicomdir.specs.Claims.{IsClaimant};
-ghost use Rattle.dicomdir.specs.Made.{IsMemberPath, IsPathAt};
-ghost use Rattle.dicomdir.specs.Refusal.{IsAmong, IsSetFile, IsSource};
+ghost use Rattle.dicomdir.specs.Made.{IsAsStored, IsMemberPath, IsPathAt};
+ghost use Rattle.dicomdir.specs.Publishes.{HasPlace, IsCopyAt, MayLinkAt, pile_at};
+ghost use Rattle.dicomdir.specs.Refusal.{IsAmong, IsPileFile, IsSetFile, IsSource};
 
-use crate::image_path::{IdPath, PathText};
+use crate::image_path::{IdPath, PathText, PilePath};
+use crate::piles::Place;
 use crate::refusal::Subject;
 use dd_elem::Memory;
 use dd_engine::{MergeFault, Pick, first_saying};
 use dd_files::file_path;
+use dd_pile::copy_path;
 use dd_version::Version;
 use std::alloc::Global;
+
+/// How the file of an image is looked up, and what a hard link to it needs.
+#[derive(Clone, Copy)]
+pub(crate) enum Lookup<'a> {
+    /// It is looked up as a source. It gets no hard link.
+    Source,
+    /// It is looked up as a file of the file-set in this folder.
+    Member(&'a str),
+    /// It is looked up at exactly its path. It was stored before, with this number of bytes.
+    Stored(u64),
+}
 
 /// The files that images are copied from.
 pub(crate) trait Origins {
@@ -26,11 +40,11 @@ pub(crate) trait Origins {
     // It stands at this path.
     ghost stands_at: { Self → Self.Pick → List ℕ → Type 0 };
 
-    // It is a file of the file-set in this folder.
-    ghost is_in: { Self → Self.Pick → List ℕ → Type 0 };
-
     // Images may get hard links in place of copies.
     ghost gives_links: { Self → Type 0 };
+
+    // Its image may be a hard link to it, where it has these bytes.
+    ghost may_link: { Self → Self.Pick → List ℕ → Type 0 };
 
     // A refusal names this where the file can't be opened or read, or has changed.
     ghost is_subject: { Self → Self.Pick → Subject → Type 0 };
@@ -42,9 +56,10 @@ pub(crate) trait Origins {
         requires { has self.now pick }
         ensures { IfOk result (λ path. stands_at self.now pick (string_bytes path)) };
 
-    fn set(&self, pick: Self::Pick) -> Option<&str>
+    fn lookup(&self, pick: Self::Pick) -> Lookup<'_>
         requires { has self.now pick }
-        ensures { IfSome result (λ set. is_in self.now pick set.now) };
+        ensures { (bytes : List ℕ) → gives_links self.now → IsAsStored result bytes
+            → may_link self.now pick bytes };
 
     fn gives_links(&self) -> bool
         ensures { result ≡ true → gives_links self.now };
@@ -81,9 +96,9 @@ impl Origins for SourceFiles<'_> {
     ghost stands_at = { λ s at path.
         IsPathAt (map (λ path. string_bytes path) s.paths.now) at path };
 
-    ghost is_in = { λ _ _ _. ⊥ };
-
     ghost gives_links = { λ _. ⊥ };
+
+    ghost may_link = { λ _ _ _. ⊥ };
 
     ghost is_subject = { λ _ at subject. IsSource at subject };
 
@@ -95,8 +110,8 @@ impl Origins for SourceFiles<'_> {
         Ok(String::from_str(alloc, self.paths[at].as_str())?)
     }
 
-    fn set(&self, _at: usize) -> Option<&str> {
-        None
+    fn lookup(&self, _at: usize) -> Lookup<'_> {
+        Lookup::Source
     }
 
     fn gives_links(&self) -> bool {
@@ -129,10 +144,9 @@ impl<'a> Origins for SetFiles<'_, 'a> {
     ghost stands_at = { λ s pick path.
         IsMemberPath (map (λ folder. string_bytes folder) s.folders.now) pick path };
 
-    ghost is_in = { λ s pick set.
-        IsPathAt (map (λ folder. string_bytes folder) s.folders.now) pick.set set };
-
     ghost gives_links = { λ s. s.link ≡ true };
+
+    ghost may_link = { λ s _ _. s.link ≡ true };
 
     ghost is_subject = { λ _ pick subject. IsSetFile pick.set subject };
 
@@ -145,8 +159,8 @@ impl<'a> Origins for SetFiles<'_, 'a> {
         file_path(alloc, self.folders[pick.set].as_str(), pick.file)
     }
 
-    fn set(&self, pick: Pick<'a>) -> Option<&str> {
-        Some(self.folders[pick.set].as_str())
+    fn lookup(&self, pick: Pick<'a>) -> Lookup<'_> {
+        Lookup::Member(self.folders[pick.set].as_str())
     }
 
     fn gives_links(&self) -> bool {
@@ -169,5 +183,54 @@ impl<'a> Origins for SetFiles<'_, 'a> {
 
     fn subject(&self, pick: Pick<'a>) -> Subject {
         Subject::SetFile(pick.set, PathText::of(&IdPath(pick.file)))
+    }
+}
+
+/// Copies in piles, each by the number of its source among those of all piles.
+#[derive(Clone, Copy)]
+pub(crate) struct PileFiles<'a> {
+    pub(crate) folders: &'a [String],
+    pub(crate) places: &'a [Place],
+    pub(crate) link: bool,
+}
+
+impl Origins for PileFiles<'_> {
+    type Pick = usize;
+
+    ghost has = { λ s at. HasPlace (length s.folders.now) s.places.now at };
+
+    ghost stands_at = { λ s at path.
+        IsCopyAt (map (λ folder. string_bytes folder) s.folders.now) s.places.now at path };
+
+    ghost gives_links = { λ s. s.link ≡ true };
+
+    ghost may_link = { λ s at bytes. MayLinkAt (s.link ≡ true) s.places.now at bytes };
+
+    ghost is_subject = { λ s at subject. IsPileFile (pile_at s.places.now at) subject };
+
+    ghost is_claimant = { λ s at planned subject. IsPileFile (pile_at s.places.now at) subject };
+
+    ghost paths = { λ s. length s.folders.now };
+
+    fn path(&self, alloc: Global, at: usize) -> Result<String, Memory> {
+        let place = self.places[at];
+        copy_path(alloc, self.folders[place.pile].as_str(), place.number)
+    }
+
+    fn lookup(&self, at: usize) -> Lookup<'_> {
+        Lookup::Stored(self.places[at].size)
+    }
+
+    fn gives_links(&self) -> bool {
+        self.link
+    }
+
+    fn claimant(&self, _alloc: Global, at: usize, _planned: &Version) -> Result<Subject, Memory> {
+        Ok(self.subject(at))
+    }
+
+    fn subject(&self, at: usize) -> Subject {
+        let place = self.places[at];
+        Subject::PileFile(place.pile, PathText::of(&PilePath(place.number)))
     }
 }

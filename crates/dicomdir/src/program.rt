@@ -8,29 +8,31 @@ ghost use Rattle.dicomdir.specs.EmptyPaths.{HasEmptyPath, RequestsEmptyPath};
 ghost use Rattle.dicomdir.specs.Inspecting.{ChecksSet, IsList, ListsSet, PrintsRequested, comparison_in, first_path};
 ghost use Rattle.dicomdir.specs.Inspecting.{form_in, style_in};
 ghost use Rattle.dicomdir.specs.Lines.{IndexSays, IndexesLine, IsIndex, IsMerge, IsWithdraw, MergeSays, MergesLine};
-ghost use Rattle.dicomdir.specs.Lines.{WithdrawSays, WithdrawsLine};
+ghost use Rattle.dicomdir.specs.Lines.{IsPublish, IsStage, PublishSays, PublishesLine, StagesLine, WithdrawSays};
+ghost use Rattle.dicomdir.specs.Lines.{WithdrawsLine};
 ghost use Rattle.dicomdir.specs.ListedNames.{AreOfSources, HavePaths};
 ghost use Rattle.dicomdir.specs.Made.{IsDone};
 ghost use Rattle.dicomdir.specs.Names.{choice_by};
-ghost use Rattle.dicomdir.specs.Refusal.{IsAmong, IsBadLine, IsOfWork};
+ghost use Rattle.dicomdir.specs.Refusal.{IsOfWork};
 ghost use Rattle.dicomdir.specs.Words.{IsRequestStatus, IsStatusOf, IsTaken, MakesOf, MakesRequested, SaysOf};
-ghost use Rattle.dicomdir.specs.Words.{SaysRequested, line_of};
+ghost use Rattle.dicomdir.specs.Words.{SaysRequested, StagesOf, StagesRequested, line_of};
 
 use crate::empty_paths::empty_path;
-use crate::hints::{hints_of, print_hints};
 use crate::index::run_index;
 use crate::inspecting::{check_of, listing_of, run_check, run_list};
-use crate::line_flags::{is_quiet, is_verbose, style_of};
-use crate::line_paths::{LinePaths, list_of, paths_of};
+use crate::line_flags::is_quiet;
+use crate::line_paths::{LinePaths, from_of, looked_up, paths_of, written_in};
 use crate::line_refusal::refuse_line;
 use crate::making::Making;
 use crate::merging::{run_merge, run_withdraw};
 use crate::names::{Names, names_of};
-use crate::refusal::{Paths, Refusal, RefusalForm, tell};
+use crate::publishing::run_publish;
+use crate::refusal::{Paths, Refusal};
 use crate::source_paths::{all_sources, bad_names_in, paths_or};
+use crate::staging::run_stage;
+use crate::telling::{shows_hints, tell_empty, tell_refusal, tell_with_hints};
 use dd_elem::Write;
 use dd_files::{Files, Hints, Progress};
-use dd_json::Style;
 use dd_line::{Request, read_request};
 use std::alloc::Global;
 
@@ -71,6 +73,12 @@ struct Work<'a> {
 ///
 /// A path that is empty is refused before any file is opened: OUT as a folder that is not made, any other
 /// as a file that is not there.
+///
+/// `stage [--files0-from FILE] [--from FOLDER] PILE SRC...` copies each source to the new folder PILE as it is, writes
+/// PILE/STAGED, which says of each what it is or what is wrong with it, and prints
+/// `DONE <n> sources, <s> skipped, <b> bytes of images`. `publish [--id ID] [--uid UID] [--max-bytes N] [--link]
+/// [--files0-from FILE] [--from FOLDER] OUT PILE...` makes and prints what `index` does of the sources of all these
+/// piles, in their order. FOLDER is where OUT, SRC and FILE are looked up; they are printed as given.
 ///
 /// `check [--keys] [--strict] SET` compares the files of a file-set with its directory, which any program may have
 /// written. It prints what it finds, or `OK <n> records`. With `--keys` it also compares what image files say of
@@ -122,6 +130,14 @@ pub fn run<F: Files + Progress + Hints, O: Write, E: Write>(
         → ¬ HasDryRun (line_of words.items)
         → WithdrawsLine (line_of words.items) (F.held files.old) (F.held files.new) }
 
+    ensures publishes { result ≡ 0 → IsTaken words.items → IsPublish (line_of words.items)
+        → ¬ HasDryRun (line_of words.items)
+        → PublishesLine (line_of words.items) (F.held files.old) (F.held files.new) }
+
+    // Where they say that, the pile that the words ask for stands, with a list of its copies, and its sum was printed.
+    ensures stages { result ≡ 0 → IsTaken words.items → IsStage (line_of words.items)
+        → StagesLine O.Write (line_of words.items) (F.held files.old) (F.held files.new) out.old out.new }
+
     // Each has printed exactly its lines SKIP and NOTE on what was read, and then DONE or PLAN with the numbers of its
     // plan.
     ensures index_says { IsDone result → IsTaken words.items → IsIndex (line_of words.items)
@@ -130,6 +146,9 @@ pub fn run<F: Files + Progress + Hints, O: Write, E: Write>(
         → MergeSays O.Write (line_of words.items) (F.held files.old) out.old out.new }
     ensures withdraw_says { result ≡ 0 → IsTaken words.items → IsWithdraw (line_of words.items)
         → WithdrawSays O.Write (line_of words.items) (F.held files.old) out.old out.new }
+
+    ensures publish_says { result ≡ 0 → IsTaken words.items → IsPublish (line_of words.items)
+        → PublishSays O.Write (line_of words.items) (F.held files.old) out.old out.new }
 
     // Where they say that, `list` has read the directory in the folder and sent its listing, and `check` has sent what
     // it found of each file, or that the directory can't be read.
@@ -172,6 +191,8 @@ fn run_request<F: Files + Progress + Hints, O: Write, E: Write>(
         (F.held files.old) out.old out.new }
     ensures printed { IsDone result → PrintsRequested F.In.Read O.Write request.now
         (F.held files.old) result (F.refusals files.old) (F.refusals files.new) out.old out.new }
+    ensures staged { result ≡ 0 → StagesRequested O.Write request.now (F.held files.old) (F.held files.new)
+        out.old out.new }
 {
     let names = match names_of(alloc, request) {
         Ok(names) => names,
@@ -181,7 +202,7 @@ fn run_request<F: Files + Progress + Hints, O: Write, E: Write>(
         }
     };
     let paths = paths_of(request);
-    match empty_path(request.new_set(), paths.sources) {
+    match empty_path(written_in(request), paths.sources) {
         Some(refusal) => tell_empty(&refusal, request, paths, files, err),
         None => {
             let work = Work {
@@ -215,6 +236,8 @@ fn run_named<F: Files + Progress + Hints, O: Write, E: Write>(
         (F.held files.old) out.old out.new }
     ensures printed { IsDone result → PrintsRequested F.In.Read O.Write work.entry.request.now
         (F.held files.old) result (F.refusals files.old) (F.refusals files.new) out.old out.new }
+    ensures staged { result ≡ 0 → StagesRequested O.Write work.entry.request.now
+        (F.held files.old) (F.held files.new) out.old out.new }
 {
     let request = work.request;
     silence_quiet(request, files);
@@ -246,80 +269,6 @@ fn silence_quiet<F: Files + Progress>(request: &Request, files: &mut F)
     if is_quiet(request) {
         files.silence();
     }
-}
-
-/// Says whether hints are shown: JSON objects have them even where no person reads the error output.
-fn shows_hints<F: Hints>(request: &Request, files: &F) -> bool {
-    let has_reader = style_of(request) == Style::Json || files.has_reader();
-    is_verbose(request) || (!is_quiet(request) && has_reader)
-}
-
-/// Prints why the work was refused, with hints where these are shown, and answers the status.
-fn tell_with_hints<F: Hints, E: Write>(
-    refusal: &Refusal,
-    request: &Request,
-    paths: Paths<'_>,
-    files: &F,
-    err: &mut E,
-) -> u8
-    requires { IsAmong (length paths.sources.now) refusal.now.subject }
-    ensures line { result ≡ 2 ↔ IsBadLine refusal.now.fault }
-    ensures status { (result ≡ 1) ⊎ (result ≡ 2) }
-{
-    let hints = if shows_hints(request, files) {
-        Some(hints_of(refusal, paths, files))
-    } else {
-        None
-    };
-    if style_of(request) == Style::Json {
-        return tell(refusal, paths, RefusalForm::Json(hints.as_ref()), err);
-    }
-    let status = tell(refusal, paths, RefusalForm::Words, err);
-    if let Some(hints) = &hints {
-        print_hints(hints, err);
-    }
-    status
-}
-
-/// Erases the line of progress, prints why the work was refused, and answers the status.
-fn tell_refusal<F: Files + Progress + Hints, E: Write>(
-    refusal: &Refusal,
-    request: &Request,
-    paths: LinePaths<'_>,
-    files: &mut F,
-    err: &mut E,
-) -> u8
-    requires { IsOfWork (length paths.sources.now) refusal.now }
-    ensures status { result ≡ 1 }
-    ensures kept { F.held files.new ≡ F.held files.old }
-{
-    files.hide_line();
-    let paths = Paths {
-        folder: paths.folder,
-        sources: paths.sources,
-        list: list_of(request),
-        unstored: files.unstored(),
-    };
-    tell_with_hints(refusal, request, paths, files, err)
-}
-
-fn tell_empty<F: Hints, E: Write>(
-    refusal: &Refusal,
-    request: &Request,
-    paths: LinePaths<'_>,
-    files: &F,
-    err: &mut E,
-) -> u8
-    requires { IsOfWork (length paths.sources.now) refusal.now }
-    ensures { result ≡ 1 }
-{
-    let paths = Paths {
-        folder: paths.folder,
-        sources: paths.sources,
-        list: "",
-        unstored: "",
-    };
-    tell_with_hints(refusal, request, paths, files, err)
 }
 
 /// Runs the command on these sources, of which the line itself gives the first.
@@ -357,6 +306,11 @@ fn run_verb<F: Files + Progress + Hints, O: Write>(
     ensures printed { IfOk result (λ status. PrintsRequested F.In.Read O.Write
         work.entry.request.now (F.held files.old) status
         (F.refusals files.old) (F.refusals files.new) out.old out.new) }
+    ensures staged { (names : List (List ℕ))
+        → HavePaths names (words_of sources.now) work.entry.bad_names.now
+        → (keeps_going work.entry.request.now ≡ false → work.entry.bad_names.now ≡ [])
+        → IfOk result (λ status. status ≡ 0 → StagesOf O.Write work.entry.request.now names
+        (F.held files.old) (F.held files.new) out.old out.new) }
 {
     let Work {
         request,
@@ -378,6 +332,16 @@ fn run_verb<F: Files + Progress + Hints, O: Write>(
         Request::Withdraw(withdraw) => {
             let making = Making::of(alloc, &withdraw.new_set, names, false, explains);
             run_withdraw(making, &withdraw.set, files, out)
+        }
+        Request::Stage(stage) => run_stage(alloc, stage, sources, files, out),
+        Request::Publish(publish) => {
+            let folder = looked_up(alloc, from_of(request), publish.new_set.out.as_str())?;
+            let making = Making::of(alloc, &publish.new_set, names, publish.link, explains);
+            let making = Making {
+                folder: folder.as_str(),
+                ..making
+            };
+            run_publish(making, sources, files, out)
         }
         Request::Check(check) => run_check(check_of(alloc, check), files, out),
         Request::List(list) => run_list(listing_of(alloc, list), files, out),

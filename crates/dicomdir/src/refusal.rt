@@ -29,9 +29,15 @@ pub enum ProgramFault {
     /// The command line gives a File-set ID of the wrong form.
     #[error(transparent)]
     SetId(BadSetId),
-    /// The directory or the list of names has more than 4,294,967,295 bytes.
+    /// The directory, the list of names or that of a pile has more than 4,294,967,295 bytes.
     #[error("39 FileTooLong")]
     TooLong,
+    /// The list of a pile would have more than 4,294,967,295 bytes.
+    #[error("43 TooLarge")]
+    ListTooLarge,
+    /// The item with this number of the list of a pile, from 1, spells no source. 0 where the list has no items.
+    #[error("66 BadStage {0}")]
+    BadStage(u64),
     /// The file-set has no directory that can be read.
     #[error(transparent)]
     Dir(DirFault),
@@ -47,7 +53,7 @@ pub enum ProgramFault {
     /// A read of the file failed.
     #[error("93 Unread")]
     Unread,
-    /// The file is there already, or it could not be made.
+    /// The file or the pile is there already, or it could not be made.
     #[error("94 Create")]
     Create,
     /// The folder could not be made, or its path is empty.
@@ -56,7 +62,8 @@ pub enum ProgramFault {
     /// A write to the file failed, or its end, or a file or a folder was not stored.
     #[error("96 Unsent")]
     Unsent,
-    /// A source is not what it was when it was read first, or the file of a set is not what records say of it.
+    /// A source is not what it was when it was read first, the file of a set is not what records say of it, or the copy
+    /// in a pile is not what the list says of it.
     #[error("97 Changed")]
     Changed,
     /// A line SKIP or NOTE was printed, and the command line has `--strict`.
@@ -79,14 +86,18 @@ impl From<AllocError> for ProgramFault {
 #[derive(Clone, Copy)]
 pub(crate) enum Subject {
     General,
-    /// The path with this index: a source, or the folder of a file-set that is read.
+    /// The path with this index: a source, or the folder of a file-set or pile that is read.
     Source(usize),
     /// The directory in that folder.
     SetDirectory(usize),
     /// The file in that folder that has this path there.
     SetFile(usize, PathText),
-    /// The folder of the file-set that is made.
+    /// The file in the pile of this index that has this path there.
+    PileFile(usize, PathText),
+    /// The folder of the file-set or of the pile that is made.
     Folder,
+    /// The file or folder that has this path in the pile that is made.
+    InPile(PathText),
     Directory,
     /// The copy of the image with this File ID.
     Image(FileId),
@@ -100,7 +111,7 @@ pub(crate) enum Subject {
 #[derive(Clone, Copy)]
 pub(crate) struct Paths<'a> {
     pub(crate) folder: &'a str,
-    /// The sources, or the folders of the file-sets that are read.
+    /// The sources, or the folders of the file-sets or piles that are read.
     pub(crate) sources: &'a [String],
     pub(crate) list: &'a str,
     pub(crate) unstored: &'a str,
@@ -201,9 +212,10 @@ pub(crate) fn tell<W: Write>(
         Subject::General => print_general(line, to),
         Subject::Source(at) => print_fault(sources[at].as_str(), line, to),
         Subject::SetDirectory(at) => print_inside(sources[at].as_str(), DIRECTORY, line, to),
-        Subject::SetFile(at, path) => {
+        Subject::SetFile(at, path) | Subject::PileFile(at, path) => {
             print_inside(sources[at].as_str(), path.as_str(), line, to);
         }
+        Subject::InPile(path) => print_inside(folder, path.as_str(), line, to),
         Subject::Folder => print_fault(folder, line, to),
         Subject::Directory => print_inside(folder, DIRECTORY, line, to),
         Subject::Image(file) => {

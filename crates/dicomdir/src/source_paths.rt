@@ -3,10 +3,12 @@ ghost use Rattle.std.specs.Option.{option_map_or};
 ghost use Rattle.dd_line.specs.Line.{OnlyReads, words_of};
 ghost use Rattle.dd_line.specs.Requests.{keeps_going, read_of, verb_of};
 ghost use Rattle.dicomdir.specs.FileSupply.{HasBytes};
+ghost use Rattle.dicomdir.specs.From.{looked_up_list};
 ghost use Rattle.dicomdir.specs.ListedNames.{AreNames, FindsSources, HavePaths, list_of, parts};
 ghost use Rattle.dicomdir.specs.Refusal.{IsOfWork};
 
 use crate::file_set::refuse_taken;
+use crate::line_paths::{from_of, looked_up, looked_up_list};
 use crate::listed_names::{AllSources, NamesFault, add_names};
 use crate::refusal::{ProgramFault, Refusal, Subject};
 use dd_elem::Memory;
@@ -52,16 +54,62 @@ pub(crate) fn all_sources<F: Files>(
     ensures unread { OnlyReads (verb_of request.now) → F.refusals files.new ≡ F.refusals files.old }
     ensures kept { F.held files.new ≡ F.held files.old }
 {
-    if let Some(set) = request.new_set() {
-        refuse_taken(alloc, set.out.as_str(), files)?;
-    }
+    refuse_old(alloc, request, files)?;
     match request {
         Request::Index(index) => { listed_sources(alloc, &index.sources, index.keep_going, files) }
         Request::Merge(merge) => listed_sources(alloc, &merge.sets, false, files),
+        Request::Stage(stage) => listed_in(alloc, from_of(request), &stage.sources, files),
+        Request::Publish(publish) => listed_in(alloc, from_of(request), &publish.piles, files),
         Request::Withdraw(_) => Ok(None),
         Request::Check(_) => Ok(None),
         Request::List(_) => Ok(None),
     }
+}
+
+/// Refuses a pile that is there in any form, and the folder of a file-set that has a directory already.
+fn refuse_old<F: Files>(alloc: Global, request: &Request, files: &mut F) -> Result<(), Refusal>
+    ensures refusal { (paths : ℕ) → IfErr result (IsOfWork paths) }
+    ensures unread { OnlyReads (verb_of request.now) → F.refusals files.new ≡ F.refusals files.old }
+    ensures kept { F.held files.new ≡ F.held files.old }
+{
+    match request {
+        Request::Stage(stage) if !files.is_free(stage.pile.as_str()) => {
+            Err(Refusal::of(Subject::Folder, ProgramFault::Create))
+        }
+        _ => match request.new_set() {
+            Some(set) => {
+                let folder = looked_up(alloc, from_of(request), set.out.as_str())?;
+                refuse_taken(alloc, folder.as_str(), files)
+            }
+            None => Ok(()),
+        },
+    }
+}
+
+/// Does what `listed_sources` does, where the list is looked up in the folder `from`, unless it is the standard input.
+fn listed_in<F: Files>(
+    alloc: Global,
+    from: &str,
+    sources: &Sources,
+    files: &mut F,
+) -> Result<Option<AllSources>, Refusal>
+    ensures refusal { (paths : ℕ) → IfErr result (IsOfWork paths) }
+    ensures listed { IfOk result (λ listed. FindsSources false
+        (option_map (λ list. looked_up_list from.now (string_bytes list)) sources.now.files0_from)
+        (words_of sources.now.words.items) (F.held files.old)
+        (words_of (option_map_or (λ all. all.paths.items) listed sources.now.words.items))
+        (option_map_or (λ all. all.bad_names.items) listed [])) }
+    ensures least { IfOk result (λ listed. length sources.now.words.items
+        ≤ length (option_map_or (λ all. all.paths.items) listed sources.now.words.items)) }
+    ensures kept { F.held files.new ≡ F.held files.old }
+{
+    let Some(list) = &sources.files0_from else {
+        return Ok(None);
+    };
+    let path = looked_up_list(alloc, from, list.as_str())?;
+    let bytes = list_bytes(alloc, path.as_str(), files)?;
+    let all = with_listed(alloc, sources.words.as_slice(), &bytes, false)?;
+    Ok(Some(all))
 }
 
 fn listed_sources<F: Files>(

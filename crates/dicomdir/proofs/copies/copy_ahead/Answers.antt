@@ -2,7 +2,7 @@
 use Rattle.std.proofs.Common.{subst}
 use Rattle.dd_filing.specs.Filing.{IsFileAs}
 use Rattle.dd_filing.specs.declared.agreeing.Filed.{Filed}
-use Rattle.dicomdir.proofs.Publishing.{held_published}
+use Rattle.dicomdir.proofs.HeldPublished.{held_published}
 use Rattle.dicomdir.proofs.copies.copy_ahead.Goals as goal
 
 pub returns-in-Ok-clause-made : goal.returns-in-Ok-clause-made
@@ -15,6 +15,7 @@ returns-in-Ok-clause-made g c = λ done.
       bytes = bytes;
       place = start.place;
       free = start.free;
+      of = c.requires.known sent.0;
       is = subst (λ (filed : Filed). IsFileAs c.args.image.now.planned.now filed bytes)
           (c.end_copy.ensures.planned done)
           sent.1.0;

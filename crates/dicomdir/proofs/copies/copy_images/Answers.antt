@@ -1,7 +1,6 @@
 -- The image of a record more is made after those before it.
 use Rattle.std.proofs.Common.{arith}
 use Rattle.dicomdir.proofs.ImagesMade.{so_far_more}
-use Rattle.dicomdir.specs.Made.{MayLink}
 use Rattle.dicomdir.proofs.copies.copy_images.Goals as goal
 
 pub loop-record-preserved : goal.loop-record-preserved
@@ -10,12 +9,12 @@ loop-record-preserved g c =
     record {
       has = c.in_ok-copy_record.ensures.has cc;
       made = so_far_more
-          (MayLink (g.O.Origins.gives_links c.args.set.now.origins.now)
-          (g.O.Origins.stands_at c.args.set.now.origins.now))
+          (g.O.Origins.stands_at c.args.set.now.origins.now) (g.O.Origins.may_link c.args.set.now.origins.now)
           c.args.set.now.folder.now c.args.set.now.plan.now.versions c.records-record-items.result.now
           c.args.set.now.picks.now
           c.loop-record.record-index c.record-item.result c.loop-record.left.picks.now
           c.copy_record.new.left.picks.now _ _ _
           (omega (arith, within)) (rw (← c.record-item.is) (c.in_ok-copy_record.ensures.copied cc))
           c.loop-record.invariant.made;
+      known = c.in_ok-copy_record.ensures.known cc;
     }

@@ -1,13 +1,14 @@
 -- The images of the records so far are made, where there is a pick.
 use Rattle.std.specs.Prelude.{All}
 use Rattle.dicomdir.proofs.ImagesMade.{SoFar}
-use Rattle.dicomdir.specs.Made.{MayLink}
+use Rattle.dicomdir.specs.ReadingAhead.{KnowsNext}
 use Rattle.dicomdir.proofs.copies.copy_images.Given as goal
 
 abbrev pub invariant-loop-record : goal.invariant-loop-record
 invariant-loop-record g l = record {
   has : All (g.O.Origins.has l.set.origins.now) l.left.picks.now;
-  made : SoFar (MayLink (g.O.Origins.gives_links l.set.origins.now) (g.O.Origins.stands_at l.set.origins.now))
+  made : SoFar (g.O.Origins.stands_at l.set.origins.now) (g.O.Origins.may_link l.set.origins.now)
       l.set.folder.now l.set.plan.now.versions l.record-items l.set.picks.now l.record-index l.left.picks.now
       (g.F.Files.held l.initial.files) (g.F.Files.held l.files);
+  known : KnowsNext (g.O.Origins.stands_at l.set.origins.now) l.left.picks.now l.left.ahead (g.F.Files.held l.files);
 }

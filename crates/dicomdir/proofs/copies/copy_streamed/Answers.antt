@@ -2,7 +2,8 @@
 use Rattle.std.proofs.Common.{subst}
 use Rattle.dd_filing.specs.Filing.{IsFileAs}
 use Rattle.dd_filing.specs.declared.agreeing.Filed.{Filed}
-use Rattle.dicomdir.proofs.Publishing.{held_published}
+use Rattle.dicomdir.proofs.HeldPublished.{held_published}
+use Rattle.dicomdir.proofs.KnownAhead.{one_given}
 use Rattle.dicomdir.proofs.copies.copy_streamed.Goals as goal
 
 pub returns-in-Ok-clause-made : goal.returns-in-Ok-clause-made
@@ -10,11 +11,14 @@ returns-in-Ok-clause-made g c = λ done.
     let start = c.in_ok-start_copy.ensures.started cc in
     let h = c.in-Ok.ensures in
     let went = h.answered.1.1 in
+    let opened = c.in_ok-reader.ensures.opened in
     record {
       path = start.path;
       bytes = h.given;
       place = start.place;
       free = rw c.in_ok-reader.ensures.kept at start.free;
+      of = one_given (g.O.Origins.stands_at c.args.image.now.origins.now c.args.image.now.pick) opened.from
+          (g.F.Files.held c.args.files.now) _ _ h.given opened.picked opened.unread.left h.known h.answered.1.0.1;
       is = subst (λ (filed : Filed). IsFileAs c.args.image.now.planned.now filed h.given)
           (c.end_copy.ensures.planned done)
           h.answered.0;

@@ -1,6 +1,12 @@
--- Opening and reading changes nothing that the files hold.
-use Rattle.std.specs.Prelude.{◌≡◌}
+-- What is known of the files so far is so of the picks so far.
+use Rattle.std.proofs.Common.{◌≡◌, length}
+use Rattle.dicomdir.specs.ReadingAhead.{KnowsNext}
 use Rattle.dicomdir.proofs.copies.read_ahead.Given as goal
 
 abbrev pub invariant-loop-pick : goal.invariant-loop-pick
-invariant-loop-pick g l = g.F.Files.held l.files ≡ g.F.Files.held l.initial.files
+invariant-loop-pick g l = record {
+  past : l.ahead.past ≡ 0;
+  count : length l.ahead.files ≡ l.pick-index;
+  known : KnowsNext (g.O.Origins.stands_at l.origins) l.picks l.ahead (g.F.Files.held l.files);
+  kept : g.F.Files.held l.files ≡ g.F.Files.held l.fn.files;
+}

@@ -12,8 +12,8 @@ pub returns-clause-made : goal.returns-clause-made
 returns-clause-made g c = λ names have makes.
     let making = c.args.making in
     rw (c.status_past-2.ensures, c.deref-3.ensures.value) (done_index making.names.now.choice making.max_bytes names _
-    c.in-Ok.past.noted making.keep_going c.in_ok-status.status (words_of c.args.sources.now) making.folder.now _
-    c.in_ok-status.ensures.status
+    c.in-Ok.past.noted making.keep_going c.in_ok-status.status (words_of c.args.sources.now) making.bad_names.now
+    making.folder.now _ c.in_ok-status.ensures.status have
     (rw c.begin_step.ensures.kept at c.in-Ok.ensures.answers names have)
     (rw (
       c.deref-2.ensures.value,

@@ -1,15 +1,23 @@
 -- The file of the pick has a hard link, and nothing else changed what the files hold.
 use Rattle.std.proofs.Common.{◌∙◌}
+use Rattle.dicomdir.proofs.Unlinked.{bytes_by}
+use Rattle.dicomdir.specs.Made.{IsAsStored}
 use Rattle.dicomdir.proofs.links.link_image.Goals as goal
+
+pub returns-in-Err-clause-refusal : goal.returns-in-Err-clause-refusal
+returns-in-Err-clause-refusal g c = c.refusal_of.ensures _ c.subject.ensures.among
 
 pub returns-clause-linked : goal.returns-clause-linked
 returns-clause-linked g c = λ done. record {
   path = c.as_str-2.result.now;
   from = c.as_str.result.now;
   place = rw (c.as_str-2.ensures.value, ← c.text.ensures.exact) c.in_ok-path.ensures;
-  picked = (c.in-Some.ensures cc, rw c.as_str.ensures.value c.in_ok-from.ensures);
-  there = rw (c.in_ok-make_folder.ensures.kept, c.in_ok-open.ensures.kept) at c.in-Ok.ensures.there cc;
-  free = rw (c.in_ok-make_folder.ensures.kept, c.in_ok-open.ensures.kept) at c.in-Ok.ensures.free cc;
-  made = c.in_ok-store_batch.ensures.kept ∙ c.advance.ensures.kept
-      ∙ (rw (c.in_ok-make_folder.ensures.kept, c.in_ok-open.ensures.kept) at c.in-Ok.ensures.linked cc);
+  picked = rw c.as_str.ensures.value c.in_ok-from.ensures;
+  there = bytes_by (IsAsStored c.lookup-lookup.result)
+      (g.O.Origins.may_link c.args.image.now.origins.now c.args.image.now.pick) c.as_str.result.now
+      (g.F.Files.held c.args.files.now) (λ bytes is. c.lookup-lookup.ensures bytes (c.gives_links.ensures cc) is)
+      (rw (c.in_ok-make_folder.ensures.kept, c.in_ok-open_unstored.ensures.kept) at c.in-Ok.ensures.there cc);
+  free = rw (c.in_ok-make_folder.ensures.kept, c.in_ok-open_unstored.ensures.kept) at c.in-Ok.ensures.free cc;
+  made = c.in_ok-store_link.ensures.kept ∙ c.advance.ensures.kept
+      ∙ (rw (c.in_ok-make_folder.ensures.kept, c.in_ok-open_unstored.ensures.kept) at c.in-Ok.ensures.linked cc);
 }

@@ -5,15 +5,16 @@ use Rattle.dd_line.proofs.RequestLemmas.{given_bad, requested_bad, requested_che
 use Rattle.dicomdir.specs.DryRun.{HasDryRun, HasKeepGoing}
 use Rattle.dicomdir.specs.EmptyPaths.{HasEmptyPath}
 use Rattle.dicomdir.specs.Inspecting.{ChecksSet, IsList, ListsSet, comparison_in, first_path, form_in, style_in}
-use Rattle.dicomdir.specs.Lines.{IndexesLine, IsIndex, IsMerge, IsWithdraw, MergesLine, WithdrawsLine}
-use Rattle.dicomdir.specs.Lines.{IndexSays, MergeSays, WithdrawSays}
+use Rattle.dicomdir.specs.Lines.{IndexesLine, IsIndex, IsMerge, IsPublish, IsStage, IsWithdraw, MergesLine}
+use Rattle.dicomdir.specs.Lines.{IndexSays, MergeSays, PublishSays, PublishesLine, StagesLine, WithdrawSays}
+use Rattle.dicomdir.specs.Lines.{WithdrawsLine}
 use Rattle.dicomdir.specs.Made.{IsDone}
 use Rattle.dicomdir.specs.Words.{IsTaken, line_of}
 use Rattle.dicomdir.proofs.DryRuns.{given_keep_going, requested_dry, requested_work}
 use Rattle.dicomdir.proofs.EmptyWords.{requested_empty}
 use Rattle.dicomdir.proofs.InspectedLines.{requested_checks, requested_lists}
-use Rattle.dicomdir.proofs.LinesMade.{given_index, given_merge, given_withdraw}
-use Rattle.dicomdir.proofs.LinesSaid.{index_says, merge_says, withdraw_says}
+use Rattle.dicomdir.proofs.LinesMade.{given_index, given_merge, given_publish, given_stage, given_withdraw}
+use Rattle.dicomdir.proofs.LinesSaid.{index_says, merge_says, publish_says, withdraw_says}
 use Rattle.dicomdir.proofs.LinesRefused.{taken_lacks, taken_mistake}
 use Rattle.dicomdir.proofs.program.run.Goals as goal
 
@@ -95,6 +96,25 @@ returns-in-Ok-clause-withdraws g c = λ done _ names works.
     (given_withdraw c.in-Ok.request found _ _ _ read names
     (c.run_request.ensures.made (requested_work c.in-Ok.request found read works) (inl done)))
 
+pub returns-in-Ok-clause-publishes : goal.returns-in-Ok-clause-publishes
+returns-in-Ok-clause-publishes g c = λ done _ names works.
+    let found = line_of c.as_slice.result.now in
+    let read = c.in-Ok.ensures.request in
+    let works = subst (λ words. ¬ HasDryRun (line_of words)) (sym c.as_slice.ensures.value) works in
+    let names = subst (λ words. IsPublish (line_of words)) (sym c.as_slice.ensures.value) names in
+    subst (λ words. PublishesLine (line_of words) (g.F.Files.held c.args.files.now)
+    (g.F.Files.held c.run_request.new.files)) c.as_slice.ensures.value
+    (given_publish c.in-Ok.request found _ _ _ read names
+    (c.run_request.ensures.made (requested_work c.in-Ok.request found read works) (inl done)))
+
+pub returns-in-Ok-clause-stages : goal.returns-in-Ok-clause-stages
+returns-in-Ok-clause-stages g c = λ done _ names.
+    let names = subst (λ words. IsStage (line_of words)) (sym c.as_slice.ensures.value) names in
+    subst (λ words. StagesLine g.O.Write (line_of words) (g.F.Files.held c.args.files.now)
+    (g.F.Files.held c.run_request.new.files) c.args.out.now c.run_request.new.out) c.as_slice.ensures.value
+    (given_stage g.O.Write c.in-Ok.request (line_of c.as_slice.result.now) _ _ _ _ c.in-Ok.ensures.request names
+    (c.run_request.ensures.staged done))
+
 pub returns-in-Ok-clause-index_says : goal.returns-in-Ok-clause-index_says
 returns-in-Ok-clause-index_says g c = λ done _ names.
     let names = subst (λ words. IsIndex (line_of words)) (sym c.as_slice.ensures.value) names in
@@ -117,6 +137,14 @@ returns-in-Ok-clause-withdraw_says g c = λ done _ names.
     subst (λ words. WithdrawSays g.O.Write (line_of words) (g.F.Files.held c.args.files.now)
     c.args.out.now c.run_request.new.out) c.as_slice.ensures.value
     (withdraw_says g.O.Write c.in-Ok.request (line_of c.as_slice.result.now) _ _ _ _ c.in-Ok.ensures.request names
+    (c.run_request.ensures.says (inl done)))
+
+pub returns-in-Ok-clause-publish_says : goal.returns-in-Ok-clause-publish_says
+returns-in-Ok-clause-publish_says g c = λ done _ names.
+    let names = subst (λ words. IsPublish (line_of words)) (sym c.as_slice.ensures.value) names in
+    subst (λ words. PublishSays g.O.Write (line_of words) (g.F.Files.held c.args.files.now)
+    c.args.out.now c.run_request.new.out) c.as_slice.ensures.value
+    (publish_says g.O.Write c.in-Ok.request (line_of c.as_slice.result.now) _ _ _ _ c.in-Ok.ensures.request names
     (c.run_request.ensures.says (inl done)))
 
 pub returns-in-Ok-clause-lists : goal.returns-in-Ok-clause-lists
@@ -196,6 +224,19 @@ returns-clause-withdraws g c = λ is taken _ _.
     absurd {A = WithdrawsLine (line_of c.args.words.items) (g.F.Files.held c.args.files.now)
     (g.F.Files.held c.args.files.now)} (omega (arith, is, amiss.0))
 
+pub returns-clause-publishes : goal.returns-clause-publishes
+returns-clause-publishes g c = λ is taken _ _.
+    let still = subst (λ words. IsTaken words) (sym c.as_slice.ensures.value) taken in
+    let amiss = c.refuse_line.ensures.mistake (taken_mistake c.in-Err.fault _ _ (c.in-Err.ensures.passes still)) in
+    absurd {A = PublishesLine (line_of c.args.words.items) (g.F.Files.held c.args.files.now)
+    (g.F.Files.held c.args.files.now)} (omega (arith, is, amiss.0))
+
+pub returns-clause-stages : goal.returns-clause-stages
+returns-clause-stages g c = λ is taken _.
+    let still = subst (λ words. IsTaken words) (sym c.as_slice.ensures.value) taken in
+    let amiss = c.refuse_line.ensures.mistake (taken_mistake c.in-Err.fault _ _ (c.in-Err.ensures.passes still)) in
+    absurd (refused_line c.refuse_line.result (inl is) amiss.0 c.refuse_line.ensures.status)
+
 pub returns-clause-index_says : goal.returns-clause-index_says
 returns-clause-index_says g c = λ is taken _.
     let still = subst (λ words. IsTaken words) (sym c.as_slice.ensures.value) taken in
@@ -210,6 +251,12 @@ returns-clause-merge_says g c = λ is taken _.
 
 pub returns-clause-withdraw_says : goal.returns-clause-withdraw_says
 returns-clause-withdraw_says g c = λ is taken _.
+    let still = subst (λ words. IsTaken words) (sym c.as_slice.ensures.value) taken in
+    let amiss = c.refuse_line.ensures.mistake (taken_mistake c.in-Err.fault _ _ (c.in-Err.ensures.passes still)) in
+    absurd (refused_line c.refuse_line.result (inl is) amiss.0 c.refuse_line.ensures.status)
+
+pub returns-clause-publish_says : goal.returns-clause-publish_says
+returns-clause-publish_says g c = λ is taken _.
     let still = subst (λ words. IsTaken words) (sym c.as_slice.ensures.value) taken in
     let amiss = c.refuse_line.ensures.mistake (taken_mistake c.in-Err.fault _ _ (c.in-Err.ensures.passes still)) in
     absurd (refused_line c.refuse_line.result (inl is) amiss.0 c.refuse_line.ensures.status)

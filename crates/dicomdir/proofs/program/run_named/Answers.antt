@@ -30,6 +30,19 @@ returns-in-Ok-run_verb-clause-says g c = λ done.
           (rw c.bad_names_in.ensures found.none) done;
     }
 
+-- So is what is staged.
+pub returns-in-Ok-run_verb-clause-staged : goal.returns-in-Ok-run_verb-clause-staged
+returns-in-Ok-run_verb-clause-staged g c = λ done.
+    let found = rw c.silence_quiet.ensures.kept at c.in-Ok.ensures.listed in
+    record {
+      names = found.sources;
+      are = found.are;
+      staged = rw (c.all_sources.ensures.kept, c.silence_quiet.ensures.kept) at
+          c.in-Ok-run_verb.ensures.staged found.sources
+          (rw (c.paths_or-sources.ensures, c.paths_of-given.ensures.sources, c.bad_names_in.ensures) found.have)
+          (rw c.bad_names_in.ensures found.none) done;
+    }
+
 pub run_verb-requires-clause-named : goal.run_verb-requires-clause-named
 run_verb-requires-clause-named g c =
     let found = c.in-Ok.ensures.listed in

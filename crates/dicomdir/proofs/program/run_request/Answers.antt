@@ -1,12 +1,14 @@
 -- Where a command runs, no path is empty.
 use Rattle.std.proofs.Common.{ℕ, arith, inl, inr, refl, rules, subst}
+use Rattle.dd_line.specs.Requests.{written_of}
 use Rattle.dicomdir.specs.EmptyPaths.{IsEmptyAt}
 use Rattle.dicomdir.proofs.EmptyWords.{folder_seen, none_empty}
 use Rattle.dicomdir.proofs.program.run_request.Goals as goal
 
 pub returns-clause-empty : goal.returns-clause-empty
 returns-clause-empty g c = λ has. absurd (none_empty c.args.request.now
-    (folder_seen c.args.request.now c.new_set.result c.new_set.ensures (c.in-None.ensures.folders refl))
+    (folder_seen (written_of c.args.request.now) c.written_in.result c.written_in.ensures
+    (c.in-None.ensures.folders refl))
     (subst (λ paths. (at : ℕ) → ¬ IsEmptyAt paths at) c.paths_of-paths.ensures.sources
     (c.in-None.ensures.sources refl)) has)
 

@@ -3,8 +3,8 @@ use Rattle.std.proofs.Common.{◌∙◌, refl}
 use Rattle.dd_line.specs.Line.{words_of}
 use Rattle.dicomdir.proofs.HavingPaths.{all_named}
 use Rattle.dicomdir.specs.declared.refusal.Refusal.{Refusal}
-use Rattle.dicomdir.proofs.LinesMade.{index_done, merge_done}
-use Rattle.dicomdir.proofs.LinesSaid.{index_said, merge_said}
+use Rattle.dicomdir.proofs.LinesMade.{index_done, merge_done, publish_done}
+use Rattle.dicomdir.proofs.LinesSaid.{index_said, merge_said, publish_said}
 use Rattle.dicomdir.proofs.program.run_verb.Goals as goal
 
 pub returns-in-Index-clause-made : goal.returns-in-Index-clause-made
@@ -26,6 +26,15 @@ returns-in-Withdraw-clause-made g c = rw c.in-Withdraw.is (λ names have none ma
     merge_done {E = Refusal} c.run_withdraw.result _ _ _ _ ⊥ _ _ _ c.run_withdraw.ensures.status
     (rw (of.folder, of.names, of.limit) at c.run_withdraw.ensures.made (of.dry ∙ makes)))
 
+pub returns-in_ok-folder-in-Publish-clause-made : goal.returns-in_ok-folder-in-Publish-clause-made
+returns-in_ok-folder-in-Publish-clause-made g c = rw c.in-Publish.is (λ names have none makes.
+    let of = c.of-making-in-Publish.ensures in
+    let same = all_named names (words_of c.args.sources.now) (rw (none refl) at have) in
+    let looked = rw (c.from_of.ensures, c.in-Publish.is, c.as_str.ensures.value) at c.in_ok-folder-in-Publish.ensures in
+    let folder = c.as_str-in-Publish.ensures.value ∙ looked in
+    publish_done {E = Refusal} c.run_publish.result _ _ _ _ _ _ _ c.run_publish.ensures.status
+    (rw (same, folder, of.names, of.limit, of.link) at c.run_publish.ensures.made (of.dry ∙ makes)))
+
 pub returns-in-Index-clause-says : goal.returns-in-Index-clause-says
 returns-in-Index-clause-says g c = rw c.in-Index.is (λ names have none.
     let of = c.of-making.ensures in
@@ -44,6 +53,18 @@ returns-in-Withdraw-clause-says g c = rw c.in-Withdraw.is (λ names have none.
     let of = c.of-making-in-Withdraw.ensures in
     merge_said {E = Refusal} g.O.Write c.run_withdraw.result _ _ _ _ _ _ _ _ _ _ c.run_withdraw.ensures.status
     (rw (of.style, of.dry, of.strict, of.names, of.limit) at c.run_withdraw.ensures.printed))
+
+pub returns-in_ok-folder-in-Publish-clause-says : goal.returns-in_ok-folder-in-Publish-clause-says
+returns-in_ok-folder-in-Publish-clause-says g c = rw c.in-Publish.is (λ names have none.
+    let of = c.of-making-in-Publish.ensures in
+    let same = all_named names (words_of c.args.sources.now) (rw (none refl) at have) in
+    publish_said {E = Refusal} g.O.Write c.run_publish.result _ _ _ _ _ _ _ _ _ c.run_publish.ensures.status
+    (rw (same, of.style, of.dry, of.strict, of.names, of.limit) at c.run_publish.ensures.printed))
+
+pub returns-in-Stage-clause-staged : goal.returns-in-Stage-clause-staged
+returns-in-Stage-clause-staged g c = rw c.in-Stage.is (λ names have none.
+    let same = all_named names (words_of c.args.sources.now) (rw (none refl) at have) in
+    rw same at c.run_stage.ensures.staged)
 
 pub returns-in-Check-clause-printed : goal.returns-in-Check-clause-printed
 returns-in-Check-clause-printed g c =

@@ -1,0 +1,167 @@
+-- What was made of piles, and what was printed.
+use Rattle.std.proofs.Common.{◌≡◌, ◌∙◌, ◌+◌, ◌<◌, ℕ, List, [], ◌∷◌, Bool, Option, Result, Ok, Err, IfOk, IsOk, ap, ap₂, arith}
+use Rattle.std.proofs.Common.{get_or, length, refl, string_bytes, subst, sym, true}
+use Rattle.std.proofs.lemmas.List.{length-map}
+use Rattle.std.proofs.lemmas.List.Elements.{All-weaker}
+use Rattle.std.proofs.lemmas.List.Sums.{sum_by-cons}
+use Rattle.std.proofs.Math.ListN.{get_or-map}
+use Rattle.std.specs.Prelude.{All, min, sum_by}
+use Rattle.dd_elem.specs.Device.{last_count}
+use Rattle.dd_elem.specs.declared.device.Write.{Ghosts as WriteOf}
+use Rattle.dd_engine.specs.declared.choice.Choice.{Choice}
+use Rattle.dd_engine.specs.declared.noted_index.NotedIndex.{NotedIndex}
+use Rattle.dd_engine.specs.Found.{HasFound}
+use Rattle.dd_engine.specs.Indexing.{Answer}
+use Rattle.dd_engine.specs.IndexNotes.{NotesIndex}
+use Rattle.dd_files.specs.Files.{Held}
+use Rattle.dd_json.specs.declared.value.Style.{Style}
+use Rattle.dd_line.specs.Line.{words_of}
+use Rattle.dd_lines.specs.Text.{TakesText}
+use Rattle.dd_pile.specs.Paths.{IsCopyPath}
+use Rattle.dd_staged.specs.Sources.{Source}
+use Rattle.dicomdir.proofs.AllStanding.{stands_whole}
+use Rattle.dicomdir.proofs.InPiles.{in_some_pile, pile_within}
+use Rattle.dicomdir.proofs.Piling.{lists_count}
+use Rattle.dicomdir.proofs.SaidLines.{takes_both}
+use Rattle.dicomdir.proofs.Unlinked.{set_each}
+use Rattle.dicomdir.specs.Indexes.{limits_of}
+use Rattle.dicomdir.specs.Made.{MakesFileSet}
+use Rattle.dicomdir.specs.Noted.{IsNotedIndex}
+use Rattle.dicomdir.specs.Publishes.{DonePublishes, HasPiled, HasPlace, IsCopyAt, IsCopyOf, IsPiled, MayLinkAt, MayLinkCopy, PrintsPublish}
+use Rattle.dicomdir.specs.Publishes.{answers_in, image_bytes, last_line, pile_at, placed_bytes, size_at, sizes_in}
+use Rattle.dicomdir.specs.Publishes.{sources_in}
+use Rattle.dicomdir.specs.Said.{SaysNotes}
+use Rattle.dicomdir.specs.declared.piles.Piled.{Piled}
+use Rattle.dicomdir.specs.declared.piles.Place.{Place}
+
+-- ---- the numbers of sources
+
+-- this is so of a number where it is so of the number of all sources
+pub of_names : (piles : List (List ℕ)) (files : Option Held) (piled : Piled) (Is : ℕ → Type 0)
+    → HasPiled piles files piled → ((answers : List Answer) → HasFound answers piled.found → Is (length answers))
+    → Is (length piled.names.items)
+of_names piles files piled Is (lists, are, is) h =
+    let sources = sources_in lists in
+    subst Is (length-map sources (λ (source : Source). source.found)
+    ∙ sym (length-map sources (λ (source : Source). source.name)) ∙ sym is.shown.count
+    ∙ length-map piled.names.items (λ name. string_bytes name))
+    (h (answers_in lists) is.found)
+
+has_place : (count : ℕ) (lists : List (List Source)) (piled : Piled) (at : ℕ) → length lists ≡ count
+    → IsPiled lists piled → at < length (answers_in lists) → HasPlace count piled.places.items at
+has_place count lists piled at many is within =
+    let sources = sources_in lists in
+    let among : at < length sources = omega (arith, within, length-map sources (λ (source : Source). source.found)) in
+    let (pile, number, in_pile) = in_some_pile lists at among in
+    record {
+      within = omega (arith, among, is.places.count);
+      pile = omega (
+        arith,
+        many,
+        pile_within lists at pile number in_pile,
+        (is.places.each at pile number in_pile).in_pile,
+      );
+    }
+
+-- each number of a source has its place
+pub have_places : (piles : List (List ℕ)) (count : ℕ) (files : Option Held) (piled : Piled) (picks : List ℕ)
+    → length piles ≡ count → HasPiled piles files piled
+    → ((answers : List Answer) → HasFound answers piled.found → All (λ at. at < length answers) picks)
+    → All (HasPlace count piled.places.items) picks
+have_places piles count files piled picks many (lists, are, is) within =
+    All-weaker (λ at. at < length (answers_in lists)) (HasPlace count piled.places.items)
+    (λ at. has_place count lists piled at (lists_count piles lists files are ∙ many) is) picks
+    (within (answers_in lists) is.found)
+
+-- ---- copies
+
+-- the length of a copy is that which the lists say
+same_size : (lists : List (List Source)) (piled : Piled) → IsPiled lists piled → (at : ℕ)
+    → size_at piled.places.items at ≡ get_or (sizes_in lists) at 0
+same_size lists piled is at =
+    sym (get_or-map (λ (place : Place). place.size) piled.places.items at
+    (record { pile = 0; number = 0; size = 0 }))
+    ∙ ap (λ (sizes : List ℕ). get_or sizes at 0) is.places.sizes
+
+-- the bytes of the images are those that the lists say
+same_bytes : (lists : List (List Source)) (piled : Piled) (picks : List ℕ) → IsPiled lists piled
+    → placed_bytes piled.places.items picks ≡ image_bytes lists picks
+same_bytes lists piled picks is = ap (λ (n : ℕ). min n last_count) (sums picks) where
+  sums : (picks : List ℕ) → sum_by (size_at piled.places.items) picks
+      ≡ sum_by (λ at. get_or (sizes_in lists) at 0) picks
+  sums [] = refl
+  sums (at ∷ picks) =
+      sum_by-cons (size_at piled.places.items) at picks ∙ ap₂ (λ (a b : ℕ). a + b) (same_size lists piled is at) (sums picks)
+      ∙ sym (sum_by-cons (λ (at : ℕ). get_or (sizes_in lists) at 0) at picks)
+
+copy_of : (piles : List (List ℕ)) (lists : List (List Source)) (piled : Piled) (at : ℕ) (path : List ℕ)
+    → IsPiled lists piled → IsCopyAt piles piled.places.items at path → IsCopyOf piles lists at path
+copy_of piles lists piled at path is copy =
+    let (pile, number, in_pile) = in_some_pile lists at (omega (arith, copy.within, is.places.count)) in
+    let place = is.places.each at pile number in_pile in
+    record {
+      pile = pile;
+      number = number;
+      place = in_pile;
+      is = subst (λ (at_pile : ℕ). IsCopyPath (get_or piles at_pile []) (number + 1) path) place.in_pile
+          (subst (λ (n : ℕ). IsCopyPath (get_or piles (pile_at piled.places.items at) []) n path) place.counted copy.is);
+    }
+
+module _ (choice : Choice) (bytes : ℕ) (piles : List (List ℕ)) (piled : Piled) (noted : NotedIndex) where
+  -- what was found is noted so
+  abbrev pub NotesFound : Type 0
+  NotesFound = (answers : List Answer) → HasFound answers piled.found
+      → NotesIndex choice (limits_of bytes) answers (Ok noted)
+
+  -- what a publish is done with, that has made its file-set
+  pub done_publish : {E : Type 0} (r : Result ℕ E) (GivesLinks : Type 0) (folder : List ℕ) (old new : Option Held)
+      → HasPiled piles old piled → NotesFound
+      → (IsOk r → MakesFileSet (IsCopyAt piles piled.places.items) (MayLinkAt GivesLinks piled.places.items) folder
+      noted.indexed.plan noted.indexed.picks.items old new)
+      → DonePublishes r choice bytes piles GivesLinks folder old new
+  done_publish (Ok status) GivesLinks folder old new (lists, are, is) notes made = λ done.
+      let picks = noted.indexed.picks.items in
+      record {
+        lists = lists;
+        are = are;
+        indexed = noted.indexed;
+        is = (notes (answers_in lists) is.found).0;
+        stands = stands_whole (IsCopyOf piles lists) (MayLinkCopy GivesLinks lists) folder noted.indexed.plan picks old
+            new
+            (set_each (IsCopyAt piles piled.places.items) (IsCopyOf piles lists)
+            (MayLinkAt GivesLinks piled.places.items) (MayLinkCopy GivesLinks lists) folder noted.indexed.plan picks
+            old new
+            (λ at. record {
+              stands = λ path. copy_of piles lists piled at path is;
+              links = λ bytes may. (may.0, may.1 ∙ same_size lists piled is at);
+            })
+            (made refl));
+      }
+  done_publish (Err refusal) GivesLinks folder old new all notes made = tt
+
+  -- the last line was printed after the notes, unless the output failed
+  pub publish_prints : {E W : Type 0} (writer : WriteOf W) (r : Result ℕ E) (style : Style) (is_dry is_strict : Bool)
+      (files : Option Held) (old mid new : W) → HasPiled piles files piled → NotesFound
+      → (notes : List ℕ) × SaysNotes style (words_of piled.names.items) noted notes × TakesText writer old mid notes
+      → (is_strict ≡ true → ¬ IsNotedIndex noted)
+      → IfOk r (λ status. status ≡ 0 → TakesText writer mid new (last_line style is_dry noted.indexed.plan
+      (placed_bytes piled.places.items noted.indexed.picks.items)))
+      → IfOk r (λ status. status ≡ 0
+      → PrintsPublish writer style is_dry is_strict choice bytes piles files old new)
+  publish_prints writer (Ok status) style is_dry is_strict files old mid new (lists, are, is) indexes
+      (notes, said, took) strict next = λ done. record {
+        lists = lists;
+        are = are;
+        noted = noted;
+        indexes = indexes (answers_in lists) is.found;
+        names = words_of piled.names.items;
+        shown = is.shown;
+        notes = notes;
+        said = said;
+        strict = strict;
+        printed = takes_both writer old mid new notes
+            (last_line style is_dry noted.indexed.plan (image_bytes lists noted.indexed.picks.items)) took
+            (subst (λ (images : ℕ). TakesText writer mid new (last_line style is_dry noted.indexed.plan images))
+            (same_bytes lists piled noted.indexed.picks.items is) (next done));
+      }
+  publish_prints writer (Err refusal) style is_dry is_strict files old mid new all indexes said strict next = tt

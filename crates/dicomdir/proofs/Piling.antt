@@ -1,0 +1,169 @@
+-- What is read of the lists of piles, source by source.
+use Rattle.std.proofs.Common.{◌≡◌, ◌∙◌, ◌+◌, ◌<◌, ◌++◌, ℕ, suc, List, [], ◌∷◌, Global, Option, String, ap, ap₂}
+use Rattle.std.proofs.Common.{arith, get_or, inl, inr, length, map, refl, string_bytes, subst, sym, take}
+use Rattle.std.proofs.lemmas.List.{get_or_append_left, get_or_push, length_push, map_push}
+use Rattle.std.proofs.lemmas.List.{length-take-le, take_more}
+use Rattle.std.specs.Str.{IsUtf8}
+use Rattle.dd_engine.specs.Found.{HasFound}
+use Rattle.dd_engine.specs.Indexing.{Answer}
+use Rattle.dd_files.specs.Files.{Held}
+use Rattle.dd_line.specs.Line.{words_of}
+use Rattle.dd_pile.specs.Lists.{IfList}
+use Rattle.dd_staged.specs.Sources.{Source}
+use Rattle.dd_staged.specs.Stages.{IsStage}
+use Rattle.dicomdir.proofs.HavingPaths.{last_or_before}
+use Rattle.dicomdir.proofs.InPiles.{in_more, in_start, in_within, same_sources, sources_more}
+use Rattle.dicomdir.specs.Publishes.{AreLists, ArePlaces, AreShown, HasPiled, IsPiled, IsPlaceOf, answers_in}
+use Rattle.dicomdir.specs.Publishes.{names_in, sources_in}
+use Rattle.dicomdir.specs.declared.piles.Piled.{Piled}
+use Rattle.dicomdir.specs.declared.piles.Place.{Place}
+
+-- ---- no source yet
+
+none_shown : AreShown [] []
+none_shown = record { count = refl; each = λ at within utf8. absurd (omega (arith, within)) }
+
+none_placed : ArePlaces [] []
+none_placed = record {
+  count = refl;
+  each = λ at pile number is. absurd (omega (arith, is.within));
+  sizes = refl;
+}
+
+pub none_piled : (files : Option Held) (piled : Piled) → piled.names.items ≡ [] → piled.places.items ≡ []
+    → HasFound [] piled.found → HasPiled [] files piled
+none_piled files piled names places found = (
+  [],
+  tt,
+  record {
+    shown = rw names none_shown;
+    places = rw places none_placed;
+    found = found;
+  },
+)
+
+-- the same of one list more, without its sources
+pub piled_start : (lists : List (List Source)) (piled : Piled) → IsPiled lists piled
+    → IsPiled (lists ++ [] ∷ []) piled
+piled_start lists piled is = record {
+  shown = rw (same_sources lists) is.shown;
+  places = record {
+    count = is.places.count ∙ sym (ap length (same_sources lists));
+    each = λ at pile number in_pile. is.places.each at pile number (in_start lists at pile number in_pile);
+    sizes = is.places.sizes ∙ sym (ap (map (λ (source : Source). source.size)) (same_sources lists));
+  };
+  found = rw (same_sources lists) is.found;
+}
+
+-- ---- one source more
+
+shown_more : (names shown : List (List ℕ)) (name text : List ℕ) → AreShown names shown
+    → (IsUtf8 name → text ≡ name) → AreShown (names ++ name ∷ []) (shown ++ text ∷ [])
+shown_more names shown name text are same = record {
+  count = omega (arith, are.count, length_push shown text, length_push names name);
+  each = λ at within utf8.
+      elim (last_or_before at (length names) (omega (arith, within, length_push names name))) [
+        | inl before ↦ get_or_append_left shown (text ∷ []) [] at (omega (arith, before, are.count))
+            ∙ are.each at before (subst IsUtf8 (get_or_append_left names (name ∷ []) [] at before) utf8)
+            ∙ sym (get_or_append_left names (name ∷ []) [] at before)
+        | inr last ↦ get_or_push shown text [] at (are.count ∙ sym last)
+            ∙ same (subst IsUtf8 (get_or_push names name [] at (sym last)) utf8)
+            ∙ sym (get_or_push names name [] at (sym last))
+      ];
+}
+
+module _ (lists : List (List Source)) (part : List Source) (source : Source) where
+  abbrev before : List (List Source)
+  before = lists ++ part ∷ []
+
+  abbrev after : List (List Source)
+  after = lists ++ (part ++ source ∷ []) ∷ []
+
+  names_more : names_in after ≡ names_in before ++ source.name ∷ []
+  names_more = ap (map (λ (source : Source). source.name)) (sources_more lists part source)
+      ∙ map_push (λ (source : Source). source.name) (sources_in before) source
+
+  answers_more : answers_in after ≡ answers_in before ++ source.found ∷ []
+  answers_more = ap (map (λ (source : Source). source.found)) (sources_more lists part source)
+      ∙ map_push (λ (source : Source). source.found) (sources_in before) source
+
+  abbrev no_place : Place
+  no_place = record { pile = 0; number = 0; size = 0 }
+
+  places_more : (places : List Place) (place : Place) → ArePlaces before places
+      → IsPlaceOf (length lists) (length part) place → place.size ≡ source.size
+      → ArePlaces after (places ++ place ∷ [])
+  places_more places place are is size = record {
+    sizes = map_push (λ (place : Place). place.size) places place
+        ∙ ap₂ (λ (sizes : List ℕ) (size : ℕ). sizes ++ size ∷ []) are.sizes size
+        ∙ sym (ap (map (λ (source : Source). source.size)) (sources_more lists part source)
+        ∙ map_push (λ (source : Source). source.size) (sources_in before) source);
+    count = omega (
+      arith,
+      are.count,
+      length_push places place,
+      ap length (sources_more lists part source),
+      length_push (sources_in before) source,
+    );
+    each = λ at pile number in_pile. elim (in_more lists part source at pile number in_pile) [
+      | inl old ↦
+          let within = in_within before at pile number old in
+          subst (IsPlaceOf pile number)
+          (sym (get_or_append_left places (place ∷ []) no_place at (omega (arith, within, are.count))))
+          (are.each at pile number old)
+      | inr next ↦ subst (IsPlaceOf pile number)
+          (sym (get_or_push places place no_place at (are.count ∙ sym next.past)))
+          (record {
+            in_pile = is.in_pile ∙ sym next.last;
+            counted = is.counted ∙ ap (λ (n : ℕ). n + 1) (sym next.next);
+          })
+    ];
+  }
+
+  -- a source was added: its name as lines show it, its place, and what was found of it
+  pub piled_more : (old new : Piled) (text : String Global) (place : Place) → IsPiled before old
+      → new.names.items ≡ old.names.items ++ text ∷ [] → (IsUtf8 source.name → string_bytes text ≡ source.name)
+      → new.places.items ≡ old.places.items ++ place ∷ [] → IsPlaceOf (length lists) (length part) place
+      → place.size ≡ source.size → ((answers : List Answer) → HasFound answers old.found → HasFound (answers ++ source.found ∷ []) new.found)
+      → IsPiled after new
+  piled_more old new text place is names same places at size found = record {
+    shown = rw (names, map_push (λ (text : String Global). string_bytes text) old.names.items text, names_more)
+        (shown_more (names_in before) (words_of old.names.items) source.name (string_bytes text) is.shown same);
+    places = rw places (places_more old.places.items place is.places at size);
+    found = rw answers_more (found (answers_in before) is.found);
+  }
+
+-- ---- one pile more
+
+list_after : (piles : List (List ℕ)) (lists : List (List Source)) (pile : List ℕ) (list : List Source)
+    (files : Option Held) → AreLists piles lists files → IfList pile (λ bytes. IsStage bytes list) files
+    → AreLists (piles ++ pile ∷ []) (lists ++ list ∷ []) files
+list_after [] [] pile list files all one = (one, tt)
+list_after [] (first ∷ lists) pile list files all one = absurd all
+list_after (first ∷ piles) [] pile list files all one = absurd all
+list_after (first ∷ piles) (other ∷ lists) pile list files all one =
+    (all.0, list_after piles lists pile list files all.1 one)
+
+pub lists_count : (piles : List (List ℕ)) (lists : List (List Source)) (files : Option Held)
+    → AreLists piles lists files → length lists ≡ length piles
+lists_count [] [] files all = refl
+lists_count [] (list ∷ lists) files all = absurd all
+lists_count (pile ∷ piles) [] files all = absurd all
+lists_count (pile ∷ piles) (list ∷ lists) files all = ap suc (lists_count piles lists files all.1)
+
+-- the list of one more pile was read
+pub piled_then : (piles : List (List ℕ)) (at : ℕ) (list : List Source) (files : Option Held) (old new : Piled)
+    → at < length piles → HasPiled (take at piles) files old
+    → IfList (get_or piles at []) (λ bytes. IsStage bytes list) files
+    → ((lists : List (List Source)) → length lists ≡ at → IsPiled lists old → IsPiled (lists ++ list ∷ []) new)
+    → HasPiled (take (at + 1) piles) files new
+piled_then piles at list files old new within (lists, are, is) one added =
+    let count = lists_count (take at piles) lists files are ∙ taken in (
+      lists ++ list ∷ [],
+      subst (λ (l : List (List ℕ)). AreLists l (lists ++ list ∷ []) files) (sym (take_more piles at [] within))
+          (list_after (take at piles) lists (get_or piles at []) list files are one),
+      added lists count is,
+    )
+  where
+    taken : length (take at piles) ≡ at
+    taken = length-take-le at piles (omega (arith, within))

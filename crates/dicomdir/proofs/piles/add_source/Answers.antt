@@ -1,0 +1,13 @@
+-- One source more is added.
+use Rattle.std.proofs.Common.{refl, sym}
+use Rattle.dd_staged.specs.Sources.{source_view}
+use Rattle.dicomdir.proofs.Piling.{piled_more}
+use Rattle.dicomdir.proofs.SaidLines.{on_ok_gives}
+use Rattle.dicomdir.proofs.piles.add_source.Goals as goal
+
+pub returns : goal.returns
+returns c = λ ok lists part last counted is.
+    piled_more lists part (source_view c.args.staged) c.args.piled.now _ c.in_ok-shown_name.field-0 _ is
+    c.in_ok-push.ensures.items (rw c.deref.ensures.value at c.in_ok-shown_name.ensures) c.in_ok-push-2.ensures.items
+    (record { in_pile = sym last; counted = sym counted }) refl
+    (on_ok_gives c.push-3.result ok c.push-3.ensures)

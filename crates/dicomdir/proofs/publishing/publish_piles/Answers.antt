@@ -1,0 +1,82 @@
+-- What was made and printed is of the answer of the engine on what the lists of the piles say.
+use Rattle.std.proofs.Common.{length, rules, string_bytes}
+use Rattle.std.proofs.lemmas.List.{length-map}
+use Rattle.std.specs.Prelude.{IsOk, Ok}
+use Rattle.dd_engine.specs.Indexed.{IsWithin}
+use Rattle.dd_engine.specs.Noting.{AreBelow, IsBelow}
+use Rattle.dd_line.specs.Line.{words_of}
+use Rattle.dicomdir.proofs.PilesMade.{done_publish, have_places, of_names, publish_prints}
+use Rattle.dicomdir.proofs.PrintedLines.{unnoted}
+use Rattle.dicomdir.proofs.SaidLines.{on_ok_gives}
+use Rattle.dicomdir.specs.declared.refusal.Refusal.{Refusal}
+use Rattle.dicomdir.specs.Noted.{IsNotedIndex}
+use Rattle.dicomdir.proofs.publishing.publish_piles.Goals as goal
+
+pub refuse-requires : goal.refuse-requires
+refuse-requires g c =
+    let conflict = c.in-Err.fault.conflict in
+    rw c.deref.ensures.value (of_names (words_of c.args.piles.now) _ c.in_ok-names.field-0
+    (λ count. IsBelow (λ at. at) count conflict) c.in_ok-names.ensures.piled c.in-Err.ensures.conflict)
+
+pub returns-in-Err-clause-refusal : goal.returns-in-Err-clause-refusal
+returns-in-Err-clause-refusal g c = c.refuse.ensures (length c.args.piles.now)
+
+pub tell_noted-requires : goal.tell_noted-requires
+tell_noted-requires g c =
+    let piles = words_of c.args.piles.now in
+    let noted = c.in-Ok.past.noted in
+    record {
+      within = rw c.deref-2.ensures.value (of_names piles _ c.in_ok-names.field-0
+          (λ count. IsWithin count noted.indexed) c.in_ok-names.ensures.piled c.in-Ok.ensures.within);
+      below = rw c.deref-2.ensures.value (of_names piles _ c.in_ok-names.field-0
+          (λ count. AreBelow (λ at. at) count noted.notes.left_out.items) c.in_ok-names.ensures.piled
+          c.in-Ok.ensures.below);
+    }
+
+pub make_file_set-requires : goal.make_file_set-requires
+make_file_set-requires g c =
+    let piles = c.args.piles.now in
+    rw (c.deref-3.ensures.value, c.deref-4.ensures.value) (have_places (words_of piles) (length piles) _
+    c.in_ok-names.field-0 c.in-Ok.past.noted.indexed.picks.items (length-map piles (λ word. string_bytes word))
+    c.in_ok-names.ensures.piled (λ answers found. (c.in-Ok.ensures.within answers found).picks))
+
+pub returns-clause-made : goal.returns-clause-made
+returns-clause-made g c = λ makes.
+    let making = c.args.making in
+    done_publish making.names.now.choice making.max_bytes (words_of c.args.piles.now) c.in_ok-names.field-0
+    c.in-Ok.past.noted c.make_file_set.result _ making.folder.now _ _ c.in_ok-names.ensures.piled
+    c.in-Ok.ensures.notes (rw (
+      c.deref-3.ensures.value,
+      c.deref-4.ensures.value,
+      c.show_dates.ensures.kept,
+      c.read_piles.ensures.kept,
+    ) at c.make_file_set.ensures.made)
+
+pub returns-clause-printed : goal.returns-clause-printed
+returns-clause-printed g c =
+    let making = c.args.making in
+    let noted = c.in-Ok.past.noted in
+    let ok : IsOk c.tell_noted.result = search rules in
+    publish_prints making.names.now.choice making.max_bytes (words_of c.args.piles.now) c.in_ok-names.field-0 noted
+    g.O.Write c.make_file_set.result making.style making.dry_run making.strict _ c.args.out.now
+    c.tell_noted.new.out c.make_file_set.new.out c.in_ok-names.ensures.piled c.in-Ok.ensures.notes
+    (on_ok_gives c.tell_noted.result ok (rw c.deref-2.ensures.value at c.tell_noted.ensures.told))
+    (unnoted making.strict c.is_noted.result (IsNotedIndex noted) c.in_ok-refuse_noted.ensures.refuses
+    c.is_noted.ensures) (rw c.if-making.false c.make_file_set.ensures.printed)
+
+pub returns-then-making-clause-printed : goal.returns-then-making-clause-printed
+returns-then-making-clause-printed g c =
+    let making = c.args.making in
+    let noted = c.in-Ok.past.noted in
+    let ok : IsOk c.tell_noted.result = search rules in
+    publish_prints making.names.now.choice making.max_bytes (words_of c.args.piles.now) c.in_ok-names.field-0 noted
+    {E = Refusal} g.O.Write (Ok c.tell_plan_of_images.result) making.style making.dry_run making.strict _
+    c.args.out.now c.tell_noted.new.out c.tell_plan_of_images.new.out c.in_ok-names.ensures.piled
+    c.in-Ok.ensures.notes
+    (on_ok_gives c.tell_noted.result ok (rw c.deref-2.ensures.value at c.tell_noted.ensures.told))
+    (unnoted making.strict c.is_noted.result (IsNotedIndex noted) c.in_ok-refuse_noted.ensures.refuses
+    c.is_noted.ensures) (rw c.if-making.true (rw (
+      c.bytes_of-images.ensures,
+      c.deref-then-making.ensures.value,
+      c.deref-then-making-2.ensures.value,
+    ) at c.tell_plan_of_images.ensures.done))

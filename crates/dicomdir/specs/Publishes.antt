@@ -1,0 +1,176 @@
+-- What `publish` makes of piles, and what it prints: as `index` does of their sources.
+use Rattle.std.specs.Prelude.{◌≡◌, ◌+◌, ◌<◌, ◌++◌, ◌∷◌, ℕ, List, [], Bool, Option, Result, Ok, IfOk, length, map}
+use Rattle.std.specs.Prelude.{false, min, slice_index_or, sum_by, take, true}
+use Rattle.std.specs.List.{flat_map}
+use Rattle.std.specs.Str.{IsUtf8}
+use Rattle.dd_elem.specs.Device.{last_count}
+use Rattle.dd_elem.specs.declared.device.Write.{Ghosts as WriteOf}
+use Rattle.dd_engine.specs.declared.choice.Choice.{Choice}
+use Rattle.dd_engine.specs.declared.engine.Indexed.{Indexed}
+use Rattle.dd_engine.specs.declared.noted_index.NotedIndex.{NotedIndex}
+use Rattle.dd_engine.specs.Found.{HasFound}
+use Rattle.dd_engine.specs.Indexed.{IsIndexed}
+use Rattle.dd_engine.specs.IndexNotes.{NotesIndex}
+use Rattle.dd_engine.specs.Indexing.{Answer}
+use Rattle.dd_files.specs.Files.{Held}
+use Rattle.dd_json.specs.declared.value.Style.{Style}
+use Rattle.dd_layout.specs.Layouts.{Layout}
+use Rattle.dd_line.specs.Line.{words_of}
+use Rattle.dd_lines.specs.Text.{TakesText}
+use Rattle.dd_pile.specs.Lists.{IfList}
+use Rattle.dd_pile.specs.Paths.{IsCopyPath}
+use Rattle.dd_staged.specs.Sources.{Source}
+use Rattle.dd_staged.specs.Stages.{IsStage}
+use Rattle.dicomdir.specs.Done.{ending_text, images_text}
+use Rattle.dicomdir.specs.Indexes.{limits_of}
+use Rattle.dicomdir.specs.Noted.{IsNotedIndex}
+use Rattle.dicomdir.specs.Prints.{size_of}
+use Rattle.dicomdir.specs.Said.{SaysNotes}
+use Rattle.dicomdir.specs.Standing.{IfSaid, StandsWhole}
+use Rattle.dicomdir.specs.declared.making.Ending.TheVariants.{Done}
+use Rattle.dicomdir.specs.declared.piles.Place.{Place}
+use Rattle.dicomdir.specs.declared.piles.Piled.{Piled}
+
+-- ---- what the lists say
+
+-- the lists of these piles say these sources
+abbrev pub AreLists : List (List ℕ) → List (List Source) → Option Held → Type 0
+AreLists [] [] files = Unit {0}
+AreLists [] (list ∷ lists) files = ⊥
+AreLists (pile ∷ piles) [] files = ⊥
+AreLists (pile ∷ piles) (list ∷ lists) files = IfList pile (λ bytes. IsStage bytes list) files × AreLists piles lists files
+
+-- all these sources, in the order of their piles
+abbrev pub sources_in : List (List Source) → List Source
+sources_in lists = flat_map (λ list. list) lists
+
+-- what was found of them
+abbrev pub answers_in : List (List Source) → List Answer
+answers_in lists = map (λ source. source.found) (sources_in lists)
+
+-- the names that they were given
+abbrev pub names_in : List (List Source) → List (List ℕ)
+names_in lists = map (λ source. source.name) (sources_in lists)
+
+-- the lengths of their copies
+abbrev pub sizes_in : List (List Source) → List ℕ
+sizes_in lists = map (λ source. source.size) (sources_in lists)
+
+-- names as lines show them: a name that is not UTF-8 is shown by some text
+pub record AreShown (names shown : List (List ℕ)) : Type 0 where
+  pub count : length shown ≡ length names
+  pub each : (at : ℕ) → at < length names → IsUtf8 (slice_index_or names at [])
+      → slice_index_or shown at [] ≡ slice_index_or names at []
+
+-- ---- copies
+
+-- the source of number `at` among all is that of number `number` in this pile, all counted from 0
+pub record IsInPile (lists : List (List Source)) (at pile number : ℕ) : Type 0 where
+  pub within : number < length (slice_index_or lists pile [])
+  pub same : at ≡ length (sources_in (take pile lists)) + number
+
+-- its copy stands at this path
+pub record IsCopyOf (piles : List (List ℕ)) (lists : List (List Source)) (at : ℕ) (path : List ℕ) : Type 0 where
+  pub pile : ℕ
+  pub number : ℕ
+  pub place : IsInPile lists at pile number
+  pub is : IsCopyPath (slice_index_or piles pile []) (number + 1) path
+
+-- a hard link to it may have these bytes: they are as many as the list says
+abbrev pub MayLinkCopy : Type 0 → List (List Source) → ℕ → List ℕ → Type 0
+MayLinkCopy GivesLinks lists at bytes = GivesLinks × (length bytes ≡ slice_index_or (sizes_in lists) at 0)
+
+-- the place of this number
+abbrev pub place_at : List Place → ℕ → Place
+place_at places at = slice_index_or places at (record { pile = 0; number = 0; size = 0 })
+
+abbrev pub pile_at : List Place → ℕ → ℕ
+pile_at places at = (place_at places at).pile
+
+-- it is there, and its pile is one of this number of piles
+pub record HasPlace (piles : ℕ) (places : List Place) (at : ℕ) : Type 0 where
+  pub within : at < length places
+  pub pile : pile_at places at < piles
+
+-- it is there, and the copy at it has this path
+pub record IsCopyAt (piles : List (List ℕ)) (places : List Place) (at : ℕ) (path : List ℕ) : Type 0 where
+  pub within : at < length places
+  pub is : IsCopyPath (slice_index_or piles (pile_at places at) []) (place_at places at).number path
+
+-- the length of the copy at it
+abbrev pub size_at : List Place → ℕ → ℕ
+size_at places at = (place_at places at).size
+
+-- a hard link to it may have these bytes
+abbrev pub MayLinkAt : Type 0 → List Place → ℕ → List ℕ → Type 0
+MayLinkAt GivesLinks places at bytes = GivesLinks × (length bytes ≡ size_at places at)
+
+-- the bytes of the copies at these, up to the largest count
+abbrev pub placed_bytes : List Place → List ℕ → ℕ
+placed_bytes places picks = min (sum_by (size_at places) picks) last_count
+
+-- the place of the source of number `number`, from 0, in this pile
+pub record IsPlaceOf (pile number : ℕ) (place : Place) : Type 0 where
+  pub in_pile : place.pile ≡ pile
+  pub counted : place.number ≡ number + 1
+
+-- the places of the sources of these lists
+pub record ArePlaces (lists : List (List Source)) (places : List Place) : Type 0 where
+  pub count : length places ≡ length (sources_in lists)
+  pub each : (at pile number : ℕ) → IsInPile lists at pile number → IsPlaceOf pile number (place_at places at)
+  pub sizes : map (λ place. place.size) places ≡ sizes_in lists
+
+-- what was read of these lists: the names as lines show them, the places of the copies, and what was found
+pub record IsPiled (lists : List (List Source)) (piled : Piled) : Type 0 where
+  pub shown : AreShown (names_in lists) (words_of piled.names.items)
+  pub places : ArePlaces lists piled.places.items
+  pub found : HasFound (answers_in lists) piled.found
+
+-- that is read of the lists of these piles
+abbrev pub HasPiled : List (List ℕ) → Option Held → Piled → Type 0
+HasPiled piles files piled = (lists : List (List Source)) × AreLists piles lists files × IsPiled lists piled
+
+-- ---- what is made and printed
+
+-- The best of all versions that the lists say is laid out under the label that is asked for, and the file-set of this
+-- layout stands in the folder.
+pub record MakesPublish (choice : Choice) (bytes : ℕ) (piles : List (List ℕ)) (GivesLinks : Type 0) (folder : List ℕ)
+    (old new : Option Held) : Type 0 where
+  pub lists : List (List Source)
+  pub are : AreLists piles lists old
+  pub indexed : Indexed
+  pub is : IsIndexed choice (limits_of bytes) (answers_in lists) indexed
+  pub stands : IfSaid (StandsWhole (IsCopyOf piles lists) (MayLinkCopy GivesLinks lists) folder indexed.plan
+      indexed.picks.items) old new
+
+-- a publish that is done has made this
+abbrev pub DonePublishes : {E : Type 0} → Result ℕ E → Choice → ℕ → List (List ℕ) → Type 0 → List ℕ → Option Held
+    → Option Held → Type 0
+DonePublishes r choice bytes piles GivesLinks folder old new =
+    IfOk r (λ status. status ≡ 0 → MakesPublish choice bytes piles GivesLinks folder old new)
+
+-- the bytes of the images of these sources, by the lengths of their copies, up to the largest count
+abbrev pub image_bytes : List (List Source) → List ℕ → ℕ
+image_bytes lists picks = min (sum_by (λ at. slice_index_or (sizes_in lists) at 0) picks) last_count
+
+-- the last line: of a file-set with this layout that was made or, where nothing is made, of one that would be, with this
+-- number of bytes of images
+abbrev pub last_line : Style → Bool → Layout → ℕ → List ℕ
+last_line style false plan images = ending_text style Done (length plan.versions) (size_of plan)
+last_line style true plan images = images_text style (length plan.versions) (size_of plan) images
+
+-- The notes on what the lists say, and then the last line, as `index` prints them of the sources. In a strict run nothing
+-- is noted.
+pub record PrintsPublish {W : Type 0} (writer : WriteOf W) (style : Style) (is_dry is_strict : Bool) (choice : Choice)
+    (bytes : ℕ) (piles : List (List ℕ)) (files : Option Held) (old new : W) : Type 0 where
+  pub lists : List (List Source)
+  pub are : AreLists piles lists files
+  pub noted : NotedIndex
+  pub indexes : NotesIndex choice (limits_of bytes) (answers_in lists) (Ok noted)
+  pub names : List (List ℕ)
+  pub shown : AreShown (names_in lists) names
+  pub notes : List ℕ
+  pub said : SaysNotes style names noted notes
+  pub strict : is_strict ≡ true → ¬ IsNotedIndex noted
+  pub printed : TakesText writer old new
+      (notes ++ last_line style is_dry noted.indexed.plan (image_bytes lists noted.indexed.picks.items))

@@ -1,0 +1,120 @@
+//! What the lists of piles say.
+ghost use Rattle.std.specs.Prelude.{◌≡◌, ◌<◌, ◌+◌, ◌∷◌, ◌++◌, ℕ, List, [], IfErr, IfOk, IsOk, length, string_bytes};
+ghost use Rattle.std.specs.Str.{IsUtf8};
+ghost use Rattle.dd_line.specs.Line.{words_of};
+ghost use Rattle.dd_staged.specs.Refusals.{sources_view};
+ghost use Rattle.dd_staged.specs.Sources.{Source, source_view};
+ghost use Rattle.dicomdir.specs.Publishes.{HasPiled, IsPiled};
+ghost use Rattle.dicomdir.specs.Refusal.{IsOfWork};
+
+use crate::image_path::PathText;
+use crate::listed_names::masked;
+use crate::refusal::{ProgramFault, Refusal, Subject};
+use dd_elem::Memory;
+use dd_engine::FoundSources;
+use dd_files::{Files, Progress, Step};
+use dd_pile::{PileFault, STAGED, read_pile};
+use dd_staged::Staged;
+use std::alloc::Global;
+
+/// The copy of a source.
+#[derive(Clone, Copy)]
+pub(crate) struct Place {
+    /// The number of its pile, from 0.
+    pub(crate) pile: usize,
+    /// The number of the source in that pile, from 1.
+    pub(crate) number: usize,
+    /// How many bytes the list says that it has.
+    pub(crate) size: u64,
+}
+
+/// The sources of piles, in their order.
+#[derive(Drop)]
+pub(crate) struct Piled {
+    /// Their names, as lines show them.
+    pub(crate) names: Vec<String>,
+    pub(crate) places: Vec<Place>,
+    pub(crate) found: FoundSources,
+}
+
+/// Reads the lists of the piles in these folders, one after the other. A pile that is given twice counts twice.
+pub(crate) fn read_piles<F: Files + Progress>(
+    alloc: Global,
+    piles: &[String],
+    files: &mut F,
+) -> Result<Piled, Refusal>
+    ensures refusal { IfErr result (IsOfWork (length piles.now)) }
+    ensures piled { IfOk result (HasPiled (words_of piles.now) (F.held files.old)) }
+    ensures kept { F.held files.new ≡ F.held files.old }
+{
+    let mut piled = Piled {
+        names: Vec::new(alloc),
+        places: Vec::new(alloc),
+        found: FoundSources::new(alloc),
+    };
+    files.begin_step(Step::Reading, piles.len() as u64);
+    for (at, pile) in piles.iter().enumerate() {
+        match read_pile(alloc, pile.as_str(), files) {
+            Ok(list) => add_list(alloc, at, list, &mut piled)?,
+            Err(fault) => return Err(refusal_of(fault, at)),
+        }
+        files.advance();
+    }
+    files.hide_line();
+    Ok(piled)
+}
+
+/// Adds the sources of the pile with this number, from 0.
+fn add_list(alloc: Global, pile: usize, list: Vec<Staged>, piled: &mut Piled) -> Result<(), Memory>
+    ensures { IsOk result → (lists : List (List Source)) → length lists ≡ pile
+        → IsPiled lists piled.old → IsPiled (lists ++ sources_view list ∷ []) piled.new }
+{
+    let mut number = 0;
+    for staged in list {
+        number += 1;
+        add_source(alloc, (pile, number), staged, piled)?;
+    }
+    Ok(())
+}
+
+/// Adds the source at this place: the number of its pile, from 0, and its number in that pile, from 1.
+fn add_source(
+    alloc: Global,
+    place: (usize, usize),
+    staged: Staged,
+    piled: &mut Piled,
+) -> Result<(), Memory>
+    ensures { IsOk result → (lists : List (List Source)) → (part : List Source)
+        → length lists ≡ place.0 → length part + 1 ≡ place.1 → IsPiled (lists ++ part ∷ []) piled.old
+        → IsPiled (lists ++ (part ++ source_view staged ∷ []) ∷ []) piled.new }
+{
+    let (pile, number) = place;
+    let Staged { name, size, found } = staged;
+    piled.names.push(shown_name(alloc, &name)?)?;
+    piled.places.push(Place { pile, number, size })?;
+    piled.found.push(found)
+}
+
+/// Gives the name as lines show it: itself where it is UTF-8.
+fn shown_name(alloc: Global, name: &[u8]) -> Result<String, Memory>
+    ensures { IfOk result (λ shown. IsUtf8 name.now → string_bytes shown ≡ name.now) }
+{
+    match str::from_utf8(name) {
+        Ok(text) => Ok(String::from_str(alloc, text)?),
+        Err(_) => masked(alloc, name),
+    }
+}
+
+/// Gives the refusal for a fault of the list of the pile with this number.
+fn refusal_of(fault: PileFault, at: usize) -> Refusal
+    ensures { (paths : ℕ) → at < paths → IsOfWork paths result }
+{
+    let list = Subject::PileFile(at, PathText::of(&STAGED));
+    match fault {
+        PileFault::Memory => Refusal::memory(),
+        PileFault::Absent => Refusal::of(list, ProgramFault::Absent),
+        PileFault::Unread => Refusal::of(list, ProgramFault::Unread),
+        PileFault::TooLong => Refusal::of(list, ProgramFault::TooLong),
+        PileFault::BadStage(item) => Refusal::of(Subject::Source(at), ProgramFault::BadStage(item)),
+    }
+}

@@ -1,0 +1,161 @@
+//! The command `publish`: makes a file-set of piles.
+ghost use Rattle.std.specs.Prelude.{◌≡◌, ◌<◌, ◌≤◌, ℕ, All, List, IfErr, IfOk, Ok, false, length, true};
+ghost use Rattle.dd_engine.specs.Found.{HasFound};
+ghost use Rattle.dd_engine.specs.Indexed.{IsWithin};
+ghost use Rattle.dd_engine.specs.IndexNotes.{NotesIndex};
+ghost use Rattle.dd_engine.specs.Indexing.{Answer};
+ghost use Rattle.dd_engine.specs.Noting.{AreBelow, IsBelow};
+ghost use Rattle.dd_line.specs.Line.{words_of};
+ghost use Rattle.dicomdir.specs.Indexes.{limits_of};
+ghost use Rattle.dicomdir.specs.Publishes.{DonePublishes, PrintsPublish, placed_bytes};
+ghost use Rattle.dicomdir.specs.Refusal.{IsOfWork};
+
+use crate::dates::show_dates;
+use crate::file_set::FileSet;
+use crate::index::{is_noted, tell_noted};
+use crate::making::{Making, make_file_set, tell_plan_of_images};
+use crate::note_lines::{refuse_noted, tell_conflict};
+use crate::origins::PileFiles;
+use crate::piles::{Piled, Place, read_piles};
+use crate::refusal::{ProgramFault, Refusal};
+use crate::sum::{Sum, show_sum};
+use dd_elem::Write;
+use dd_engine::{EngineFault, FoundSources, NotedFault, PastFailures, publish_engine};
+use dd_files::{Files, Hints, Progress};
+use dd_json::Style;
+use dd_layout::Limits;
+
+/// Runs `publish`: reads the lists of all these piles, prints what is skipped and what is noted, and makes the file-set
+/// of their images, or prints what would be made.
+pub(crate) fn run_publish<F: Files + Progress + Hints, O: Write>(
+    making: Making<'_>,
+    piles: &[String],
+    files: &mut F,
+    out: &mut O,
+) -> Result<u8, Refusal>
+    ensures refusal { IfErr result (IsOfWork (length piles.now)) }
+    ensures status { IfOk result (λ status. status ≤ 1) }
+    ensures dry { making.entry.dry_run ≡ true → F.held files.new ≡ F.held files.old }
+    ensures made { making.entry.dry_run ≡ false
+        → DonePublishes result making.entry.names.now.choice making.entry.max_bytes
+        (words_of piles.now) (making.entry.link ≡ true) making.entry.folder.now
+        (F.held files.old) (F.held files.new) }
+    ensures printed { IfOk result (λ status. status ≡ 0 → PrintsPublish O.Write making.entry.style
+        making.entry.dry_run making.entry.strict making.entry.names.now.choice making.entry.max_bytes
+        (words_of piles.now) (F.held files.old) out.old out.new) }
+{
+    let mut sum = Sum::new();
+    let done = publish_piles(making, piles, &mut sum, files, out);
+    if making.explains && matches!(done, Ok(0)) {
+        show_sum(&sum, making.style, files);
+    }
+    done
+}
+
+/// Does so, and counts what becomes of the sources.
+fn publish_piles<F: Files + Progress + Hints, O: Write>(
+    making: Making<'_>,
+    piles: &[String],
+    sum: &mut Sum,
+    files: &mut F,
+    out: &mut O,
+) -> Result<u8, Refusal>
+    ensures refusal { IfErr result (IsOfWork (length piles.now)) }
+    ensures status { IfOk result (λ status. status ≤ 1) }
+    ensures dry { making.entry.dry_run ≡ true → F.held files.new ≡ F.held files.old }
+    ensures made { making.entry.dry_run ≡ false
+        → DonePublishes result making.entry.names.now.choice making.entry.max_bytes
+        (words_of piles.now) (making.entry.link ≡ true) making.entry.folder.now
+        (F.held files.old) (F.held files.new) }
+    ensures printed { IfOk result (λ status. status ≡ 0 → PrintsPublish O.Write making.entry.style
+        making.entry.dry_run making.entry.strict making.entry.names.now.choice making.entry.max_bytes
+        (words_of piles.now) (F.held files.old) out.old out.new) }
+{
+    let Piled {
+        names,
+        places,
+        found,
+    } = read_piles(making.alloc, piles, files)?;
+    let past = match past_of(making, found) {
+        Ok(past) => past,
+        Err(fault) => return Err(refuse(&names, &fault, making.style, out)),
+    };
+    if tell_noted(&past, &names, &[], making.style, out).is_err() {
+        return Ok(1);
+    }
+    *sum = Sum::of(&past.noted, names.len());
+    refuse_noted(making.strict, is_noted(&past.noted))?;
+    let indexed = &past.noted.indexed;
+    show_dates(making.explains_in_words(), &indexed.plan, files);
+    if making.dry_run {
+        let images = bytes_of(&indexed.picks, &places);
+        return Ok(tell_plan_of_images(&indexed.plan, images, making.style, out));
+    }
+    let set = FileSet {
+        folder: making.folder,
+        plan: &indexed.plan,
+        origins: &PileFiles {
+            folders: piles,
+            places: &places,
+            link: making.link,
+        },
+        picks: &indexed.picks,
+    };
+    make_file_set(making.alloc, &set, making.style, files, out)
+}
+
+/// Plans the file-set of what was found of the sources, all of which were read.
+fn past_of(
+    making: Making<'_>,
+    found: FoundSources,
+) -> Result<PastFailures, NotedFault<EngineFault, usize>>
+    ensures notes { (answers : List Answer) → HasFound answers found
+        → IfOk result (λ past. NotesIndex making.entry.names.now.choice (limits_of making.entry.max_bytes) answers
+        (Ok past.noted)) }
+    ensures within { (answers : List Answer) → HasFound answers found
+        → IfOk result (λ past. IsWithin (length answers) past.noted.indexed) }
+    ensures below { (answers : List Answer) → HasFound answers found
+        → IfOk result (λ past. AreBelow (λ at. at) (length answers) past.noted.notes.left_out.items) }
+    ensures conflict { (answers : List Answer) → HasFound answers found
+        → IfErr result (λ noted. IsBelow (λ at. at) (length answers) noted.conflict) }
+{
+    let limits = Limits::of_bytes(making.max_bytes);
+    let Making { alloc, names, .. } = making;
+    let noted = publish_engine(alloc, found, &names.choice, limits)?;
+    Ok(PastFailures {
+        noted,
+        absent: Vec::new(alloc),
+    })
+}
+
+/// Gives the bytes of the copies at these numbers, up to `u64::MAX`.
+fn bytes_of(picks: &[usize], places: &[Place]) -> u64
+    requires { All (λ at. at < length places.now) picks.now }
+    ensures { result ≡ placed_bytes places.now picks.now }
+{
+    let mut bytes = 0u64;
+    for at in picks {
+        bytes = bytes.saturating_add(places[*at].size);
+    }
+    bytes
+}
+
+/// Gives the refusal. Where two instances conflict, prints first which sources have them. All sources were read before,
+/// so no other refusal names one.
+fn refuse<O: Write>(
+    names: &[String],
+    noted: &NotedFault<EngineFault, usize>,
+    style: Style,
+    out: &mut O,
+) -> Refusal
+    requires { IsBelow (λ at. at) (length names.now) noted.now.conflict }
+    ensures { (paths : ℕ) → IsOfWork paths result }
+{
+    match noted.fault {
+        EngineFault::Plan(fault) => {
+            tell_conflict(&fault, &noted.conflict, names, style, out);
+            Refusal::general(ProgramFault::Plan(fault))
+        }
+        _ => Refusal::memory(),
+    }
+}

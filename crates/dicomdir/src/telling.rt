@@ -1,0 +1,86 @@
+//! What a person is told where a run is refused.
+ghost use Rattle.std.specs.Prelude.{◌≡◌, ◌↔◌, ◌⊎◌, length};
+ghost use Rattle.dicomdir.specs.Refusal.{IsAmong, IsBadLine, IsOfWork};
+
+use crate::hints::{hints_of, print_hints};
+use crate::line_flags::{is_quiet, is_verbose, style_of};
+use crate::line_paths::{LinePaths, as_given, list_of};
+use crate::refusal::{Paths, Refusal, RefusalForm, tell};
+use dd_elem::Write;
+use dd_files::{Files, Hints, Progress};
+use dd_json::Style;
+use dd_line::Request;
+
+/// Says whether hints are shown: JSON objects have them even where no person reads the error output.
+pub(crate) fn shows_hints<F: Hints>(request: &Request, files: &F) -> bool {
+    let has_reader = style_of(request) == Style::Json || files.has_reader();
+    is_verbose(request) || (!is_quiet(request) && has_reader)
+}
+
+/// Prints why the work was refused, with hints where these are shown, and answers the status.
+pub(crate) fn tell_with_hints<F: Hints, E: Write>(
+    refusal: &Refusal,
+    request: &Request,
+    paths: Paths<'_>,
+    files: &F,
+    err: &mut E,
+) -> u8
+    requires { IsAmong (length paths.sources.now) refusal.now.subject }
+    ensures line { result ≡ 2 ↔ IsBadLine refusal.now.fault }
+    ensures status { (result ≡ 1) ⊎ (result ≡ 2) }
+{
+    let hints = if shows_hints(request, files) {
+        Some(hints_of(refusal, paths, files))
+    } else {
+        None
+    };
+    if style_of(request) == Style::Json {
+        return tell(refusal, paths, RefusalForm::Json(hints.as_ref()), err);
+    }
+    let status = tell(refusal, paths, RefusalForm::Words, err);
+    if let Some(hints) = &hints {
+        print_hints(hints, err);
+    }
+    status
+}
+
+/// Erases the line of progress, prints why the work was refused, and answers the status.
+pub(crate) fn tell_refusal<F: Files + Progress + Hints, E: Write>(
+    refusal: &Refusal,
+    request: &Request,
+    paths: LinePaths<'_>,
+    files: &mut F,
+    err: &mut E,
+) -> u8
+    requires { IsOfWork (length paths.sources.now) refusal.now }
+    ensures status { result ≡ 1 }
+    ensures kept { F.held files.new ≡ F.held files.old }
+{
+    files.hide_line();
+    let paths = Paths {
+        folder: paths.folder,
+        sources: paths.sources,
+        list: list_of(request),
+        unstored: as_given(request, files.unstored()),
+    };
+    tell_with_hints(refusal, request, paths, files, err)
+}
+
+pub(crate) fn tell_empty<F: Hints, E: Write>(
+    refusal: &Refusal,
+    request: &Request,
+    paths: LinePaths<'_>,
+    files: &F,
+    err: &mut E,
+) -> u8
+    requires { IsOfWork (length paths.sources.now) refusal.now }
+    ensures { result ≡ 1 }
+{
+    let paths = Paths {
+        folder: paths.folder,
+        sources: paths.sources,
+        list: "",
+        unstored: "",
+    };
+    tell_with_hints(refusal, request, paths, files, err)
+}
