@@ -44,8 +44,22 @@ def tasks(case):
 # failed ----
 
 
-def folder_to_make(calls, at):
-    """The folder that a call of mkdir, or a look after it, is made for: it gets the file that is made next."""
+def stages(case):
+    """Is a pile made?"""
+    return case.command.words.startswith("stage")
+
+
+def first_made(calls):
+    """The place of the first call that makes something."""
+    return next((at for at, call in enumerate(calls) if call.name == "mkdir"), len(calls))
+
+
+def folder_to_make(case, at):
+    """The folder that a call of mkdir, or a look after it, is made for: it gets the file that is made next. A pile and
+    its folders are made one by one."""
+    calls = case.right.calls
+    if stages(case):
+        return next(call.path for call in calls[at:] if call.name == "mkdir" and call.answer == 0)
     return next(os.path.dirname(call.path) for call in calls[at:] if call.name in ("create", "link"))
 
 
@@ -71,7 +85,7 @@ def of_folder(case, at, error):
     """A call to store a folder fails, or the look at one that was not made."""
     calls = case.right.calls
     if calls[at - 1].name == "mkdir" and calls[at - 1].path == calls[at].path:
-        return folder_to_make(calls, at) + ": 95 Folder"
+        return folder_to_make(case, at) + ": 95 Folder"
     # One that may not be opened is passed over.
     return None if error == "EACCES" else calls[at].path + ": 96 Unsent"
 
@@ -80,6 +94,9 @@ def of_reading(case, at, error, lasts):
     """A look at what is there, its opening, or a read of it fails."""
     calls = case.right.calls
     call = calls[at]
+    # A pile that can't be looked at may be there.
+    if stages(case) and call == next(first for first in calls if first.name == "statx") and at < first_made(calls):
+        return "OUT: 94 Create"
     # Where nothing is there, a look that fails says the same.
     if call.name == "statx" and call.answer < 0:
         return None
@@ -114,8 +131,8 @@ def is_on_the_way(calls, at):
 
 
 def next_opened(calls, at):
-    """The place of the look at the file that is opened next."""
-    return next(place for place in range(at, len(calls)) if calls[place].name == "open") - 1
+    """The place of the look at the file that is opened or linked next."""
+    return next(place for place in range(at, len(calls)) if calls[place].name in ("open", "link")) - 1
 
 
 def consequence(case, at, error, lasts):
@@ -134,7 +151,7 @@ def consequence(case, at, error, lasts):
     if call.name == "fsync" and error == "EINVAL" and is_folder(case, call.path):
         return None
     if call.name == "mkdir":
-        return folder_to_make(calls, at) + ": 95 Folder"
+        return folder_to_make(case, at) + ": 95 Folder"
     # A file whose new name is refused is copied, but where that name is taken.
     if call.name == "link" and error != "EEXIST":
         return None
@@ -148,7 +165,10 @@ def consequence(case, at, error, lasts):
 def is_for_copy(case, call, closed):
     """Is this a look at a file that is copied, its opening or a read of it, after those for its version?"""
     is_given = call.name in ("statx", "open", "fstat", "read") and call.path.split("/")[0] != "OUT"
-    if not is_given or call.path == NULL or call.path.endswith("/DICOMDIR"):
+    if not is_given or call.path == NULL or call.path.endswith(("/DICOMDIR", "/STAGED")):
+        return False
+    # The list of names is read before all files.
+    if call.path == "names":
         return False
     # The sources of an index were read before, and closed.
     return closed[call.path] > 0 if case.command.words.startswith("index") else True

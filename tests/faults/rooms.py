@@ -55,6 +55,15 @@ COMMANDS = [
     Command("merge of sets with a withdrawn image and a record that is not reached, which is refused",
             "merge OUT SETA SETU SETW --uid 2.25.0 --strict"),
     Command("withdraw of one image of two", "withdraw OUT SETA 1.2.3.1000 1.2.3.1 --uid 2.25.0"),
+    Command("stage of three images and a text", "stage OUT a.dcm text b.dcm c.dcm"),
+    Command("stage of a list of names, with hints", "stage OUT a.dcm --files0-from names --verbose"),
+    Command("stage into a folder that is there, which is refused", "stage OUT a.dcm", before="OTHER"),
+    Command("publish of two piles", "publish OUT PILEA PILEB --uid 2.25.0"),
+    Command("publish of two piles by hard links, with hints",
+            "publish OUT PILEA PILEB --link --uid 2.25.0 --verbose"),
+    Command("publish of two piles, which makes nothing", "publish OUT PILEA PILEB --dry-run --uid 2.25.0"),
+    Command("publish of two piles, which is refused", "publish OUT PILEA PILEB --uid 2.25.0 --strict"),
+    Command("publish of a pile that is cut, which is refused", "publish OUT PILEA PILEC --uid 2.25.0"),
     Command("list of two images", "list SETA"),
     Command("list of two images at length", "list --long SETA"),
     Command("check of two images", "check SETA"),
@@ -64,6 +73,7 @@ COMMANDS = [
     Command("index of images that clash, which is refused, in JSON", "index OUT a.dcm clash.dcm --uid 2.25.0 --json"),
     Command("merge of sets with withdrawn images, which is refused, in JSON",
             "merge OUT SETA SETN SETU SETW --uid 2.25.0 --strict --json"),
+    Command("stage of two images, in JSON", "stage OUT a.dcm c.dcm --json"),
     Command("list of two images at length, in JSON", "list --long --json SETA"),
     Command("check of two images, in JSON", "check --json SETA"),
 ]
@@ -247,7 +257,8 @@ class Room:
         pathlib.Path("names").write_bytes(b"text\0b.dcm")
         os.mkdir("OTHER")
         pathlib.Path("OTHER/text").write_bytes(b"another file\n")
-        for words in ("index SETA a.dcm b.dcm", "index SETB b.dcm c.dcm", "index SETN noted.dcm", "index SETU c.dcm"):
+        for words in ("index SETA a.dcm b.dcm", "index SETB b.dcm c.dcm", "index SETN noted.dcm", "index SETU c.dcm",
+                      "stage PILEA a.dcm text", "stage PILEB c.dcm b.dcm a.dcm", "stage PILEC c.dcm"):
             subprocess.run([program] + words.split(), check=True, stdout=subprocess.DEVNULL)
         # The digests of a directory belong to their creator: with another one no record has any.
         shutil.copytree("SETA", "SETD")
@@ -255,6 +266,7 @@ class Room:
         directory.write_bytes(directory.read_bytes().replace(b"DD FILESET 1", b"XX FILESET 1"))
         subprocess.run([program, "withdraw", "SETW", "SETB", "1.2.3.1000"], check=True, stdout=subprocess.DEVNULL)
         hide_image("SETU/DICOMDIR")
+        os.truncate("PILEC/STAGED", 100)
         self.given = look()
 
     def run(self, command, **settings):

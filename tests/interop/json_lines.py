@@ -131,6 +131,13 @@ def plan_words(line):
     return f"{line['instances']} instances, {line['bytes']} bytes{images}"
 
 
+def done_words(line):
+    """The words of a DONE line: of a pile or of a file-set."""
+    if "sources" in line:
+        return f"{line['sources']} sources, {line['skipped']} skipped, {line['image_bytes']} bytes of images"
+    return plan_words(line)
+
+
 def fault_words(line):
     """The words of a FAULT line, and its hints."""
     hints = "".join(f"\n  {hint}: {line[hint]}" for hint in ("cause", "help") if hint in line)
@@ -161,7 +168,7 @@ AFTER = {
     "SKIP": lambda line: f"{shown(line['path'])}: {line['fault']['words']}",
     "NOTE": note_words,
     "PLAN": plan_words,
-    "DONE": plan_words,
+    "DONE": done_words,
     "FAULT": fault_words,
 }
 WHOLE = {

@@ -6,8 +6,9 @@ use std::alloc::Global;
 use std::test::Fail;
 
 /// Lines, and what they ask for: the command, the ID and the UID (`-` where none is given), the most bytes, and the
-/// paths. Then the UIDs of images after `without`, the list of names after `from`, and each flag that is set after
-/// `with`. Or, where they are refused, the exit status and whether the text is for the error output.
+/// paths. Then the UIDs of images after `without`, the list of names after `from`, the folder of `--from` after
+/// `below`, and each flag that is set after `with`. Or, where they are refused, the exit status and whether the text is
+/// for the error output.
 const LINES: &str = "\
 dicomdir index set image.dcm > Index - - 4294967295 set image.dcm
 dicomdir index --id DISC1 --uid 2.25.1 --max-bytes 1000 set image.dcm > Index DISC1 2.25.1 1000 set image.dcm
@@ -58,6 +59,15 @@ dicomdir withdraw -- set old --uid '' withdraw > Withdraw - - 4294967295 set old
 dicomdir withdraw set --strict old --quiet 1.2 --dry-run > \
 Withdraw - - 4294967295 set old without 1.2 with strict with dry-run with quiet
 dicomdir withdraw set old 1.2 --json > Withdraw - - 4294967295 set old without 1.2 with json
+dicomdir stage pile a.dcm > Stage - - 4294967295 pile a.dcm
+dicomdir stage --files0-from list --from folder pile --quiet > \
+Stage - - 4294967295 pile from list below folder with quiet
+dicomdir stage pile b.dcm a.dcm --json --verbose > Stage - - 4294967295 pile b.dcm a.dcm with verbose with json
+dicomdir stage -- pile --from > Stage - - 4294967295 pile --from
+dicomdir publish out pile > Publish - - 4294967295 out pile
+dicomdir publish --link --from '' out b a --id A --max-bytes 1K > Publish A - 1024 out b a below '' with link
+dicomdir publish out --files0-from list --strict --dry-run --uid 1.2 > \
+Publish - 1.2 4294967295 out from list with strict with dry-run
 dicomdir check set > Check - - 4294967295 set
 dicomdir check --quiet set > Check - - 4294967295 set with quiet
 dicomdir check --verbose set --quiet > Check - - 4294967295 set with quiet with verbose
@@ -142,6 +152,23 @@ dicomdir withdraw out set > 2 true
 dicomdir withdraw --uid 2.25.1 out set > 2 true
 dicomdir withdraw --instance 1.2 out set > 2 true
 dicomdir withdraw --max-bytes 4294967296 out set 1.2 > 2 true
+dicomdir stage > 2 true
+dicomdir stage pile > 2 true
+dicomdir stage --from folder pile > 2 true
+dicomdir stage --strict pile a.dcm > 2 true
+dicomdir stage --dry-run pile a.dcm > 2 true
+dicomdir stage --link pile a.dcm > 2 true
+dicomdir stage -k pile a.dcm > 2 true
+dicomdir stage --id A pile a.dcm > 2 true
+dicomdir stage --max-bytes 7 pile a.dcm > 2 true
+dicomdir stage --from a --from b pile a.dcm > 2 true
+dicomdir publish > 2 true
+dicomdir publish out > 2 true
+dicomdir publish out --from folder > 2 true
+dicomdir publish -k out pile > 2 true
+dicomdir publish --max-bytes 4G out pile > 2 true
+dicomdir index --from folder out a.dcm > 2 true
+dicomdir merge --from folder out set > 2 true
 dicomdir check > 2 true
 dicomdir check a b > 2 true
 dicomdir check --uid 2.25.1 a > 2 true
@@ -167,6 +194,8 @@ dicomdir index --help > 0 false
 dicomdir index -h > 0 false
 dicomdir merge -h > 0 false
 dicomdir withdraw -h > 0 false
+dicomdir stage --help > 0 false
+dicomdir help publish > 0 false
 dicomdir check --help > 0 false
 dicomdir help list > 0 false";
 
@@ -206,6 +235,10 @@ fn in_words(alloc: Global, asked: &Asked) -> Result<String, Fail> {
     if let Some(list) = &asked.files0_from {
         text.push_str(" from")?;
         push_word(&mut text, list.as_str())?;
+    }
+    if let Some(folder) = &asked.from {
+        text.push_str(" below")?;
+        push_word(&mut text, folder.as_str())?;
     }
     push_flags(&mut text, asked)?;
     Ok(text)

@@ -16,6 +16,7 @@ use std::test::Fail;
 #[derive(Clone, Copy)]
 enum Call {
     Create,
+    Exact,
     FailRead,
     FolderFinishStore,
     Index,
@@ -40,7 +41,9 @@ fn is_refused(alloc: Global, call: Call, chosen: u32) -> Result<bool, Fail> {
         Call::Mistake => mistake_refused(alloc, chosen),
         Call::Put => put_refused(alloc, chosen),
         Call::PutLater => put_later_refused(alloc, chosen),
-        Call::Member | Call::Names | Call::Source => opening_refused(alloc, call, chosen),
+        Call::Exact | Call::Member | Call::Names | Call::Source => {
+            opening_refused(alloc, call, chosen)
+        }
         Call::Write => write_refused(alloc, chosen),
     }
 }
@@ -146,6 +149,7 @@ fn allocations_of_fail_read(rt: HostRuntime) -> Result<(), Fail> {
 fn open(files: &mut MemFiles, call: Call) -> Result<MemReader, NotThere> {
     match call {
         Call::Member => files.member("", "note.txt"),
+        Call::Exact => files.exact_file("note.txt"),
         Call::Names => files.names("note.txt"),
         _ => files.source("note.txt"),
     }
@@ -177,6 +181,11 @@ fn allocations_of_source(rt: HostRuntime) -> Result<(), Fail> {
 #[test]
 fn allocations_of_member(rt: HostRuntime) -> Result<(), Fail> {
     refuse_each(rt.alloc(), Call::Member)
+}
+
+#[test]
+fn allocations_of_exact_file(rt: HostRuntime) -> Result<(), Fail> {
+    refuse_each(rt.alloc(), Call::Exact)
 }
 
 #[test]

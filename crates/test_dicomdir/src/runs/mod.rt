@@ -12,4 +12,5 @@ mod mistakes;
 mod names;
 mod runs;
 mod scripts;
+mod stages;
 mod withdrawals;

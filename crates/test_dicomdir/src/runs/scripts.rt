@@ -15,7 +15,7 @@ fn disc_after(alloc: Global, steps: &str) -> Result<MemFiles, Fail> {
     Ok(files)
 }
 
-const RUNS: [&str; 3] = ["index ", "merge ", "withdraw "];
+const RUNS: [&str; 4] = ["index ", "merge ", "withdraw ", "stage "];
 
 /// Runs a line, which must succeed, has hard links refused, has the first reader of a file fail, or puts files.
 fn take_step(alloc: Global, step: &str, files: &mut MemFiles) -> Result<(), Fail> {
