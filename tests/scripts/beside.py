@@ -2,6 +2,7 @@
 files. For parallel."""
 import os
 import pathlib
+import re
 import shutil
 import stat
 import struct
@@ -12,6 +13,9 @@ import threading
 TOP = pathlib.Path(__file__).resolve().parent.parent.parent
 PARALLEL = str(TOP / "scripts/dicomdir-parallel")
 CT = "1.2.840.10008.5.1.4.1.1.2"
+# The last line of a run that ended early.
+NAMED = re.compile(rb"dicomdir-parallel: [1-9][0-9]* of [1-9][0-9]* parts are in (.*/\.dicomdir-parallel\.\w{8}): "
+                   rb"--resume goes on with them\n\Z")
 # What is run in place of the program. It notes the command, and waits in one that begins with the words of PAUSE_AT.
 NOTING = """#!/bin/sh
 printf '%s\\n' "$1 $2 $3" | head -n 1 >>"$CALLS"
@@ -60,10 +64,10 @@ def tree(folder):
 def calls_of(path):
     """How the work was done: in parts; by one process; or by one process after the parts."""
     calls = pathlib.Path(path).read_text(errors="replace").splitlines() if os.path.exists(path) else []
-    if not any(call.startswith("index --quiet --files0-from") for call in calls):
+    if not any(call.startswith("stage ") for call in calls):
         return "one"
     calls = [call for call in calls if not call.startswith("list")]
-    return "parts" if calls[-1].startswith("merge") else "back"
+    return "parts" if calls[-1].startswith("publish ") else "back"
 
 
 class Beside:
@@ -109,8 +113,9 @@ class Beside:
                                   stdout=device if full else subprocess.PIPE, stderr=subprocess.PIPE, check=False)
         return done.returncode, done.stdout, done.stderr
 
-    def compare(self, name, words, prepare, how="parts", own=("-j", "2"), inner="w", more=None, **given):
-        """Compares both runs in all that they say and make, and how the work was done, where that is known."""
+    def compare(self, name, words, prepare, how="parts", own=("-j", "2"), inner="w", more=None, left=False, **given):
+        """Compares both runs in all that they say and make, and how the work was done, where that is known. Where it is
+        said, the run left its parts, and named them."""
         # Cases are tried at the same time.
         room = self.work / str(threading.get_ident())
         one, two = room / "one", room / "two"
@@ -120,6 +125,8 @@ class Beside:
         begun = self.make(two, prepare, inner)
         environment = self.environment(two, **(more or {}))
         found = self.run([PARALLEL, *own, *words], begun, environment, **given)
+        if left:
+            found = self.take_left(name, two, found)
         found += (tree(two),)
         for part, one_of, other in zip(("status", "output", "errors", "files"), wanted, found):
             if one_of != other:
@@ -129,6 +136,17 @@ class Beside:
             self.fault(f"{name}: the work was done so: {done}, and not so: {how}")
         self.cases += 1
         return wanted
+
+
+    def take_left(self, name, room, found):
+        """Removes the parts that a run left. Gives what it said but for their folder."""
+        folders = list(room.rglob(".dicomdir-parallel.*"))
+        said = NAMED.search(found[2])
+        if len(folders) != 1 or not said or os.fsdecode(said[1]) != str(folders[0]):
+            self.fault(f"{name}: no parts are left, or they are not named: {folders} {found}")
+            return found
+        shutil.rmtree(folders[0])
+        return found[0], found[1], found[2][:said.start()]
 
 
 def skip(part, why):

@@ -12,8 +12,10 @@ from beside import PARALLEL, TOP, image, tree
 # The user of the run, another one, and the group of both.
 USER, OTHER, GROUP = 64001, 64002, 64000
 # Tools that the scripts call. At the numbered call of one the folder is exchanged before it runs, or after mktemp.
-TOOLS = "mktemp stat find ln sed xargs awk head sh cat tail mv rm rmdir split cmp sbatch dicomdir".split()
+TOOLS = "mktemp stat find ln sed xargs awk head cat tail mv rm rmdir nproc sbatch dicomdir".split()
 CALLS = 1, 2, 3, 5, 8
+# The modes of the folder above: the other user may exchange names in it by the group, or as its owner.
+MODES = {0o2770: USER, 0o3770: OTHER}
 # What takes the folder's place: a link to a folder of the user, such a folder, one of the other user with links to
 # the user's files, or nothing.
 KINDS = "link", "folder", "snare", "nothing"
@@ -44,13 +46,13 @@ while [ "$1" != -- ]; do
 done
 cp -- "$2" "$ROOM/copy.$$" && chmod +x "$ROOM/copy.$$"
 for ((at = 0; at <= tasks; at++)); do
-    SLURM_SUBMIT_DIR=$PWD SLURM_ARRAY_TASK_ID=$at "$ROOM/copy.$$" "${@:3}" >>"$ROOM/job.log" 2>&1
+    (cd / && SLURM_ARRAY_TASK_ID=$at "$ROOM/copy.$$" "${@:3}" >>"$ROOM/job.log" 2>&1)
 done
 echo $$
 """
 # What a run has in its folder.
-NAMES = ("names paths sizes counts lines skips notes joined named all numbers one other merged.out 1 1.names 1.out 1.status 2 "
-         "set words job listed number list.000000 part.000000 said.000000 errors.000000 status sets plan merged").split()
+NAMES = ("from listed names states counts other linked piles log slots 1.names 1.states 1.claim 1.errors 1.fault 1 2 job "
+         "number status output errors").split()
 
 
 SCRIPTS = ["dicomdir-parallel", "-j2"], ["dicomdir-slurm", "-j2", "--wait"]
@@ -60,10 +62,10 @@ def fill(folder, owner):
     """A folder with files that have the names of a run's."""
     os.mkdir(folder, 0o700)
     for name in NAMES:
-        if name in ("1", "2", "set", "part.000000"):
+        if name in ("1", "2"):
             os.mkdir(f"{folder}/{name}")
             os.chown(f"{folder}/{name}", owner, GROUP)
-        path = f"{folder}/{name}/DICOMDIR" if os.path.isdir(f"{folder}/{name}") else f"{folder}/{name}"
+        path = f"{folder}/{name}/STAGED" if os.path.isdir(f"{folder}/{name}") else f"{folder}/{name}"
         with open(path, "w", encoding="utf-8") as file:
             file.write("precious\n")
         os.chown(path, owner, GROUP)
@@ -102,7 +104,7 @@ def exchange(place, kind, precious):
 
 
 def prepare(runs, name, mode):
-    """A folder for a run, with one that another user owns, in which OUT is to be made."""
+    """A folder for a run, with one in which OUT is to be made, and another user may exchange names."""
     room = runs.work / f"exchange-{name}"
     shutil.rmtree(room, ignore_errors=True)
     (room / "tools").mkdir(parents=True)
@@ -123,15 +125,15 @@ def prepare(runs, name, mode):
     fill(place / "own", USER)
     lay_snare(place / "snare", precious)
     os.chown(place / "snare", OTHER, GROUP)
-    os.chown(place, OTHER, GROUP)
+    os.chown(place, MODES.get(mode, USER), GROUP)
     place.chmod(mode)
     return room, place, precious
 
 
-def try_moment(runs, program, wanted, script, moment, kind):
+def try_moment(runs, program, wanted, script, moment, kind, mode):
     """Exchanges the folder at a moment. Says whether the run came there."""
-    name = f"{script[0]}{'-hosts' * ('hosts' in script)}-{moment}-{kind}"
-    room, place, precious = prepare(runs, name, 0o3770)
+    name = f"{script[0]}{'-hosts' * ('hosts' in script)}-{moment}-{kind}-{mode:o}"
+    room, place, precious = prepare(runs, name, mode)
     before = tree(precious), tree(place / "own")
     environment = {**os.environ, "ROOM": str(room), "MOMENT": moment, "REAL": program, "TMPDIR": str(room),
                    "HOME": str(room),
@@ -166,8 +168,8 @@ def try_moment(runs, program, wanted, script, moment, kind):
 def find_own(place):
     """The folder of the user, under whatever name."""
     for path in place.iterdir():
-        if not path.is_symlink() and path.is_dir() and (path / "joined").is_file() and \
-                not (path / "joined").is_symlink() and (path / "joined").read_bytes() == b"precious\n":
+        if not path.is_symlink() and path.is_dir() and (path / "names").is_file() and \
+                not (path / "names").is_symlink() and (path / "names").read_bytes() == b"precious\n":
             return path
     return None
 
@@ -184,20 +186,6 @@ def index(runs):
     return (*runs.run(words, room, dict(os.environ)), files_of(room / "place" / "OUT"))
 
 
-def try_group(runs, program, script):
-    """A folder to which the group of both users may write is refused, and nothing is made there."""
-    room, place, _ = prepare(runs, f"group-{script[0]}", 0o2770)
-    os.chown(place, USER, GROUP)
-    before = tree(place)
-    words = [str(TOP / "scripts" / script[0]), *script[1:], "place/OUT", *NUMBERS]
-    done = subprocess.run(words, cwd=room, user=USER, group=GROUP, extra_groups=[], capture_output=True, check=False,
-                          env={**os.environ, "DICOMDIR_PROGRAM": program}, stdin=subprocess.DEVNULL)
-    if done.returncode != 1 or done.stdout or not done.stderr.startswith(f"error: others may write to {place}, ".encode()):
-        runs.fault(f"{script[0]}, a folder of mode 2770: {done}")
-    if tree(place) != before:
-        runs.fault(f"{script[0]}, a folder of mode 2770: something was made")
-
-
 def try_exchange(runs):
     """Exchanges the folders of both scripts. Gives how many runs came to the moment."""
     if os.geteuid() != 0 or subprocess.run([PARALLEL, "--help"], user=USER, group=GROUP, extra_groups=[],
@@ -206,11 +194,9 @@ def try_exchange(runs):
         return 0
     runs.work.chmod(0o711)
     program, wanted = find_program(runs), index(runs)
-    for script in SCRIPTS:
-        try_group(runs, program, script)
     scripts = [*SCRIPTS, *([*SCRIPTS[0], "--hosts", "hosts"] for _ in range(runs.hosts))]
     moments = [(script, f"{tool}.{call}") for script in scripts for tool in TOOLS for call in CALLS]
-    tries = [(*moment, KINDS[at % len(KINDS)]) for at, moment in enumerate(moments)]
+    tries = [(*moment, KINDS[at % len(KINDS)], sorted(MODES)[at // len(KINDS) % 2]) for at, moment in enumerate(moments)]
     with concurrent.futures.ThreadPoolExecutor(2 * (os.cpu_count() or 1)) as at_once:
         came = sum(at_once.map(lambda one: try_moment(runs, program, wanted, *one), tries))
     if came < len(tries) // 5:

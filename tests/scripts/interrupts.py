@@ -1,26 +1,26 @@
-"""Ends runs of dicomdir-parallel by signals, in each of their phases, and looks at what is left. For parallel."""
+"""Ends runs of dicomdir-parallel by signals, in each of their phases, looks at what is left, and goes on with what is
+kept. For parallel."""
 import concurrent.futures
 import os
 import pathlib
 import pty
 import random
 import re
+import shutil
 import signal
 import subprocess
 import time
 
-from beside import PARALLEL, image, tree
+from beside import NAMED, PARALLEL, image, tree
 
 # In which phase a run waits, by the beginning of a command of the program, or by a tool that is run in place of the
-# system's. The list of names is read to its end, which does not come. Where the file-set is published OUT is taken, and
-# one process does all.
-PHASES = {"reading": None, "cutting": "xargs", "indexing": "index --quiet", "merging": "merge --link", "removing": "rm",
-          "printing": "cat", "publishing": "index OUT"}
-# Waits where its words are of that phase. Takes OUT where the file-set is to be moved to it.
+# system's. The list of names is read to its end, which does not come.
+PHASES = {"reading": None, "cutting": "xargs", "staging": "stage", "publishing": "publish"}
+# Waits where its words are of that phase.
 TOOL = """#!/bin/sh
 case "$0 $*" in
-    */xargs*stat*|*/rm\\ -rf\\ --\\ */[0-9]|*/cat*/lines) : >"$CALLS.paused"; exec sleep 600 ;;
-    */mv*/set\\ *) mkdir OUT; : >OUT/theirs ;;
+    */xargs*stat*) : >"$CALLS.paused"; exec sleep 600 ;;
+    */rm\\ -rf\\ --\\ */) : >"$CALLS.removing"; sleep 0.5 ;;
 esac
 PATH=${PATH#*:}
 exec "${0##*/}" "$@"
@@ -39,11 +39,11 @@ def processes(calls):
     return found
 
 
-def has_parts_run(pid):
-    """Says whether a process is xargs or GNU parallel as it is called for the parts."""
+def runs_parts(pid):
+    """Says whether a process is the one that has parts staged here, or GNU parallel."""
     try:
         words = pathlib.Path(f"/proc/{pid}/cmdline").read_bytes().split(b"\0")
-        return words[0] == b"xargs" or b"--will-cite" in words
+        return b'. "$1" && work_on "${@:2}"' in words or b"--will-cite" in words
     except OSError:
         return False
 
@@ -61,8 +61,7 @@ def wait_for(is_there, seconds=120):
 class Run:
     """A run in a folder of its own, which waits in a phase, if one is named."""
 
-    def __init__(self, runs, name, phase=None, delay="0", out="OUT", terminal=False, hosts=False, skips=False, more=None,
-                 files=None, words=()):
+    def __init__(self, runs, name, phase=None, delay="0", out="OUT", terminal=False, hosts=False, more=None):
         self.runs, self.name = runs, name
         self.room = runs.work / f"signal-{name}"
         self.inside, self.calls = self.room / "w", f"{self.room}.calls"
@@ -70,21 +69,16 @@ class Run:
         self.inside.mkdir()
         for at in range(16):
             (self.inside / f"{at:03}").write_bytes(image(f"1.2.3.{at + 1}", f"P{at % 3}"))
-        for file, data in (files or {}).items():
-            (self.inside / file).write_bytes(data)
-        if skips:
-            (self.inside / "007").write_bytes(b"This is no image.\n")
         waits = PHASES.get(phase) or "never"
         tools = self.room / "tools"
         tools.mkdir()
-        tool = "mv" if phase == "publishing" else waits
-        if tool in ("xargs", "rm", "cat", "mv"):
+        for tool in ["xargs"] * (phase == "cutting") + ["rm"] * (phase == "removing"):
             (tools / tool).write_text(TOOL)
             (tools / tool).chmod(0o755)
         environment = runs.environment(self.room, PAUSE_AT=waits, DELAY=delay, TMPDIR=str(self.room / "tmp"),
                                        PATH=f"{tools}:{os.environ['PATH']}", **(more or {}))
         (self.inside / "hosts").write_text(":\n")
-        words = [PARALLEL, "-j2", out, *(f"{at:03}" for at in range(16)), *words]
+        words = [PARALLEL, "-j2", out, *(f"{at:03}" for at in range(16))]
         words += ["--hosts", "hosts"] * hosts
         if phase == "reading":
             words += ["--files0-from", "-"]
@@ -105,9 +99,11 @@ class Run:
 
     def has_come(self, phase):
         """Waits until the run is in this phase."""
+        if phase == "removing":
+            return wait_for(lambda: os.path.exists(f"{self.calls}.removing"))
         if phase != "reading":
             return wait_for(lambda: os.path.exists(f"{self.calls}.paused"))
-        begun = wait_for(lambda: os.path.exists(self.calls))
+        begun = wait_for(lambda: any(self.inside.glob(".dicomdir-parallel.*/listed")))
         time.sleep(0.4)
         return begun
 
@@ -136,23 +132,43 @@ class Run:
             return status
         return os.waitstatus_to_exitcode(os.waitpid(self.pid, 0)[1])
 
-    def looks_clean(self):
-        """Notes what is left but OUT."""
+    def looks_clean(self, kept=False):
+        """Notes what is left but OUT, and the parts of a run that ended early."""
         left = [name for name in tree(self.room) if "dicomdir-parallel" in name or name.startswith("tmp/")]
-        if left:
+        if left and not kept:
             self.runs.fault(f"{self.name}: left there: {left[:5]}")
         if not wait_for(lambda: not processes(self.calls), 20):
             self.runs.fault(f"{self.name}: processes are left: {processes(self.calls)}")
 
-    def is_ended_by(self, number, status, made=(), output=b""):
-        """Notes what is not as wanted where this signal ended the run. Bash is not ended by QUIT, but answers it."""
+    def is_ended_by(self, number, status, published=False):
+        """Notes what is not as wanted where this signal ended the run. Bash is not ended by QUIT, but answers it. Where
+        parts were whole they are kept, and named on the error output, and a run goes on with them."""
         if status != (128 + number if number == signal.SIGQUIT else -number):
             self.runs.fault(f"{self.name}: the status is {status}")
-        if tuple(name for name in tree(self.inside) if name.startswith("OUT")) != made:
-            self.runs.fault(f"{self.name}: OUT is there, or not as it was")
-        if self.child and (self.output != output or self.errors):
+        if not published and any(name.startswith("OUT") for name in tree(self.inside)):
+            self.runs.fault(f"{self.name}: OUT is there")
+        kept = bool(self.child and NAMED.fullmatch(self.errors))
+        if self.child and (self.output or self.errors) and not kept:
             self.runs.fault(f"{self.name}: it says {self.output + self.errors}")
+        self.looks_clean(kept or not self.child)
+        if kept:
+            self.goes_on()
+
+    def goes_on(self, change=None):
+        """Goes on with the parts that were kept, and gives how many were staged then."""
+        folder = NAMED.search(self.errors)[1]
+        if change:
+            change(self.inside)
+        shutil.rmtree(self.inside / "OUT", ignore_errors=True)
+        pathlib.Path(self.calls).unlink(missing_ok=True)
+        found = self.runs.run([PARALLEL, "-j3", "--resume", os.path.basename(folder), "OUT"], self.inside,
+                              self.runs.environment(self.room))
+        wanted = self.runs.run([self.runs.program, "index", "ONE", *(f"{at:03}" for at in range(16))], self.inside,
+                               dict(os.environ))
+        if found != wanted or tree(self.inside / "OUT") != tree(self.inside / "ONE"):
+            self.runs.fault(f"{self.name}: --resume says {found}, or makes another file-set")
         self.looks_clean()
+        return sum(call.startswith("stage ") for call in pathlib.Path(self.calls).read_text().splitlines())
 
 
 def try_phase(runs, phase, number, out="OUT", hosts=False):
@@ -163,18 +179,22 @@ def try_phase(runs, phase, number, out="OUT", hosts=False):
         runs.fault(f"{run.name}: it did not come there")
     sent = time.monotonic()
     os.kill(run.pid, number)
-    run.is_ended_by(number, run.end(), ("OUT", "OUT/theirs") if phase == "publishing" else ())
+    run.is_ended_by(number, run.end())
+    if bool(run.errors) != (phase == "publishing"):
+        runs.fault(f"{run.name}: parts are kept, or not")
     if time.monotonic() - sent > 60:
         runs.fault(f"{run.name}: it took {time.monotonic() - sent:.1f} seconds to end")
 
 
-def try_skipping(runs, number):
-    """Sends a signal to a run of which all is left to one process when a line is printed."""
-    run = Run(runs, f"skipping-{number.name}", "publishing", skips=True)
-    if not run.has_come("publishing"):
+def try_removing(runs, number):
+    """Sends a signal to a run that removes the piles. All is done then but that."""
+    run = Run(runs, f"removing-{number.name}", "removing")
+    if not run.has_come("removing"):
         runs.fault(f"{run.name}: it did not come there")
     os.kill(run.pid, number)
-    run.is_ended_by(number, run.end(), ("OUT", "OUT/theirs"), b"SKIP 007: 31 File 21 NotPart10\n")
+    if run.end() != 0 or not run.output.startswith(b"DONE 16 instances, ") or run.errors:
+        runs.fault(f"{run.name}: it says {run.output + run.errors}")
+    run.looks_clean()
 
 
 def try_terminal(runs, phase):
@@ -185,7 +205,7 @@ def try_terminal(runs, phase):
     os.write(run.terminal, b"\x03")
     got = run.read()
     run.is_ended_by(signal.SIGINT, run.end())
-    if got.rstrip("\x1b[K\r") not in ("", "^C") and "8 parts" not in got and phase not in got:
+    if ("8 of 8 parts are in " in got) != (phase == "publishing") or "FAULT" in got:
         runs.fault(f"{run.name}: the terminal got {got!r}")
 
 
@@ -199,22 +219,26 @@ def try_any_time(runs, seed, latest):
         os.kill(run.pid, number)
     status = run.end()
     if status != 0:
-        run.is_ended_by(number, status)
+        whole = (run.inside / "OUT" / "DICOMDIR").exists() and run.output.startswith(b"DONE 16 instances, ")
+        run.output = b"" if whole else run.output
+        run.is_ended_by(number, status, published=True)
     else:
         run.looks_clean()
         if not (run.inside / "OUT" / "DICOMDIR").exists() or not run.output.startswith(b"DONE 16 instances, "):
             runs.fault(f"{run.name}: it is not whole: {run.output + run.errors}")
 
 
-# Kills itself in the place of the program, the first time or always, as it indexes the second part.
+# Kills itself in the place of the program, the first time or always, as it stages the second part.
 KILLED = """#!/bin/sh
-case $* in *--files0-from*/2.names*) [ ! "$ALWAYS" ] && ! mkdir "$CALLS.killed" 2>/dev/null || kill -s "$SIGNAL" $$ ;; esac
+case "$1 $*" in stage*\\ 2.*) [ ! "$ALWAYS" ] && ! mkdir "$CALLS.killed" 2>/dev/null || kill -s "$SIGNAL" $$ ;; esac
+printf '%s\\n' "$1 " >>"$CALLS"
 exec "$REAL" "$@"
 """
 
 
 def try_killed_part(runs, number, always, hosts=False):
-    """Has a part killed once, or each time. It is begun again once, and then its fault is the fault of the run."""
+    """Has a part killed once, or each time. It is begun again once, and then its fault is the fault of the run. Of what
+    was kept a part is staged anew where one of its files was changed."""
     name = f"part-{number.name}-{'always' * always}{'-hosts' * hosts}"
     program = runs.work / f"{name}.program"
     program.write_text(KILLED)
@@ -222,37 +246,54 @@ def try_killed_part(runs, number, always, hosts=False):
     run = Run(runs, name, hosts=hosts, more={"DICOMDIR_PROGRAM": str(program), "ALWAYS": "1" * always,
                                              "SIGNAL": str(int(number))})
     status = run.end()
-    if always:
-        wanted = (1, b"", f"error: part 2 of 8 was killed twice, the second time by signal {int(number)}\n".encode())
-    else:
-        wanted = (0, run.output if run.output.startswith(b"DONE 16 instances, ") else b"DONE 16 instances, ..", b"")
-    if (status, run.output, run.errors) != wanted:
-        runs.fault(f"{run.name}: {status, run.output, run.errors}, and not {wanted}")
-    if (run.inside / "OUT").exists() == always:
-        runs.fault(f"{run.name}: OUT is there, or is not")
-    run.looks_clean()
-
-
-def try_again(runs, files, words, why, quiet=False):
-    """Has one process do all again: on a terminal a line says why, without --quiet."""
-    run = Run(runs, f"again-{why[:20]}{'-quiet' * quiet}", terminal=True, files=files, words=[*words, "--quiet"] if quiet else words)
-    got = run.read()
-    run.end()
-    line = f"dicomdir-parallel: one process does all again: {why}\r\n"
-    if got.count(line) != (not quiet) or (quiet and "dicomdir-parallel" in got):
-        runs.fault(f"{run.name}: the terminal got {got!r}")
-    run.looks_clean()
+    if not always:
+        if status != 0 or not run.output.startswith(b"DONE 16 instances, ") or run.errors:
+            runs.fault(f"{run.name}: {status, run.output, run.errors}")
+        run.looks_clean()
+        return
+    line = f"error: part 2 of 8 was killed twice, the second time by signal {int(number)}\n".encode()
+    if status != 1 or run.output or not run.errors.startswith(line) or not NAMED.fullmatch(run.errors[len(line):]):
+        runs.fault(f"{run.name}: {status, run.output, run.errors}")
+        return
+    run.looks_clean(kept=True)
+    lacking = 8 - int(run.errors[len(line):].split()[1])
+    staged = run.goes_on(lambda inside: (inside / "000").write_bytes(image("1.2.3.1", "P0", more="2")))
+    if staged != lacking + 1:
+        runs.fault(f"{run.name}: {staged} parts were staged, and {lacking} and one were lacking")
 
 
 def try_killed(runs, hosts):
-    """Kills what runs the parts while they are indexed. One process does the work then."""
-    run = Run(runs, f"killed{'-hosts' * hosts}", "indexing", hosts=hosts)
-    run.has_come("indexing")
-    for pid in filter(has_parts_run, processes(run.calls)):
+    """Kills what has the parts staged. It is begun again."""
+    run = Run(runs, f"killed{'-hosts' * hosts}", delay="0.3", hosts=hosts)
+    wait_for(lambda: "stage " in (pathlib.Path(run.calls).read_text() if os.path.exists(run.calls) else ""))
+    for pid in filter(runs_parts, processes(run.calls)):
         os.kill(pid, signal.SIGKILL)
     if run.end() != 0 or not run.output.startswith(b"DONE 16 instances, ") or run.errors:
         runs.fault(f"{run.name}: it says {run.output + run.errors}")
     run.looks_clean()
+
+
+def try_refused(runs):
+    """Goes on with no folder that is another's, or that no run has left, or in which one works, and in no other place."""
+    run = Run(runs, "refused", "publishing")
+    run.has_come("publishing")
+    (run.room / "other").mkdir(0o700)
+    folder = next(run.inside.glob(".dicomdir-parallel.*"))
+    odd = run.inside / "odd"
+    odd.mkdir(0o700)
+    cases = [(run.inside, folder.name, f"a run works in {folder.name}"), (run.room / "other", str(folder), "that run was begun in "),
+             (run.inside, "odd", "odd is not a folder of your own that a run has left"),
+             (run.inside, "none", "none is not a folder of your own that a run has left")]
+    for inside, given, wanted in cases:
+        found = runs.run([PARALLEL, "--resume", given, "OUT2"], inside, {**os.environ, "DICOMDIR_PROGRAM": runs.program})
+        if found[0] != 1 or found[1] or not found[2].startswith(f"error: {wanted}".encode()):
+            runs.fault(f"--resume {given}: {found}")
+    for words in ["OUT", "000"], [], ["OUT", "--dry-run"], ["OUT", "--files0-from", "x"]:
+        found = runs.run([PARALLEL, "--resume", folder.name, *words], run.inside, dict(os.environ))
+        if found[0] != 2 or found[1] or b"--resume <FOLDER>" not in found[2]:
+            runs.fault(f"--resume {words}: {found}")
+    os.kill(run.pid, signal.SIGTERM)
+    run.is_ended_by(signal.SIGTERM, run.end())
 
 
 def try_progress(runs):
@@ -262,21 +303,10 @@ def try_progress(runs):
     lines = [line.removesuffix("\x1b[K") for line in got.split("\r")]
     run.end()
     run.looks_clean()
-    if not any(line.startswith("indexing ") and line.endswith(" of 8 parts") for line in lines):
+    if not any(line.startswith("staged ") and line.endswith(" of 8 parts") for line in lines):
         runs.fault(f"{run.name}: no line of progress in {got!r}")
-    if not re.search("\r\x1b\\[KDONE 16 instances, [0-9]+ bytes\r\n$", got):
+    if not re.search("\r\x1b\\[K(.*\r\x1b\\[K)?DONE 16 instances, [0-9]+ bytes\r\n", got, re.DOTALL):
         runs.fault(f"{run.name}: the terminal got {got!r}")
-
-
-# Files, words and what is said.
-OTHER = {"015": image("1.2.3.1", "P0", more="2")}
-AGAIN = [
-    (OTHER, [], "two parts have other bytes of one instance"),
-    (OTHER, [], "two parts have other bytes of one instance", True),
-    ({"001": b"This is no image.\n"}, ["--strict"], "part 1 ended with status 1"),
-    ({"000": image("1.2.3.1", "P9", "A, B"), "001": image("1.2.3.2", "P9", "C")}, [],
-     "the names of a Patient ID can not be read without doubt"),
-    ({}, ["--max-bytes=900"], "the merge of the parts was refused, or killed")]
 
 
 def try_signals(runs):
@@ -285,21 +315,20 @@ def try_signals(runs):
     for number in (signal.SIGHUP, signal.SIGINT, signal.SIGQUIT, signal.SIGTERM):
         signal.signal(number, signal.SIG_DFL)
     tries = [(try_phase, phase, number) for phase in PHASES for number in (signal.SIGINT, signal.SIGTERM)]
-    tries += [(try_phase, "indexing", number) for number in (signal.SIGHUP, signal.SIGQUIT)]
-    tries += [(try_phase, "indexing", number, "OUT", True) for number in (signal.SIGINT, signal.SIGTERM) if runs.hosts]
-    tries += [(try_phase, "merging", signal.SIGTERM, "OUT/a/b")]
-    tries += [(try_skipping, number) for number in (signal.SIGINT, signal.SIGTERM)]
-    tries += [(try_terminal, phase) for phase in ("cutting", "indexing", "merging", "removing")]
+    tries += [(try_phase, "staging", number) for number in (signal.SIGHUP, signal.SIGQUIT)]
+    tries += [(try_phase, phase, signal.SIGINT, "OUT", True) for phase in ("staging", "publishing") if runs.hosts]
+    tries += [(try_phase, "publishing", signal.SIGTERM, "OUT/a/b")]
+    tries += [(try_removing, number) for number in (signal.SIGINT, signal.SIGTERM)]
+    tries += [(try_terminal, phase) for phase in ("cutting", "staging", "publishing")]
     tries += [(try_any_time, seed, latest) for seed in range(12) for latest in (0.1, 3)]
     with concurrent.futures.ThreadPoolExecutor(2 * (os.cpu_count() or 1)) as at_once:
         begun = [at_once.submit(what, runs, *words) for what, *words in tries]
         begun += [at_once.submit(try_killed, runs, hosts) for hosts in {False, runs.hosts}]
-        begun += [at_once.submit(try_progress, runs)]
+        begun += [at_once.submit(try_progress, runs), at_once.submit(try_refused, runs)]
         begun += [at_once.submit(try_killed_part, runs, number, always) for always in (False, True)
                   for number in (signal.SIGKILL, signal.SIGTERM)]
         begun += [at_once.submit(try_killed_part, runs, signal.SIGKILL, always, True) for always in (False, True)
                   if runs.hosts]
-        begun += [at_once.submit(try_again, runs, *again) for again in AGAIN]
     for one in begun:
         one.result()
     return len(tries)
