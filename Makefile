@@ -48,7 +48,7 @@ install:
 	@sed -n 's|^library \(.*\)|\1  $(library)|p' $(library).made-from | sha256sum --check --quiet -
 	install -D -m 755 $(program) $(bin)/dicomdir
 	install -m 755 $(scripts:%=scripts/%) $(bin)
-	install -D -m 644 -t $(share)/dicomdir scripts/functions scripts/lines
+	install -D -m 644 -t $(share)/dicomdir scripts/functions
 	install -m 755 scripts/slurm-job $(share)/dicomdir/slurm-job
 	install -D -m 644 docs/dicomdir.1 $(share)/man/man1/dicomdir.1
 	install -m 644 $(scripts:%=docs/%.1) $(share)/man/man1
@@ -76,8 +76,7 @@ uninstall:
 	for name in dicomdir $(scripts); do \
 		rm -f $(bin)/$$name $(share)/man/man1/$$name.1 $(share)/bash-completion/completions/$$name \
 			$(share)/fish/vendor_completions.d/$$name.fish || exit 1; done
-	rm -f $(share)/zsh/site-functions/_dicomdir $(share)/dicomdir/functions $(share)/dicomdir/lines \
-		$(share)/dicomdir/slurm-job
+	rm -f $(share)/zsh/site-functions/_dicomdir $(share)/dicomdir/functions $(share)/dicomdir/slurm-job
 	rm -f $(ours)/README.md $(ours)/CHANGELOG.md $(ours)/dicomdir.made-from $(ours)/docs/*.md $(ours)/docs/images/*.svg
 	rm -f $(ours)/docs/json-schema.json
 	rm -f $(ours)/examples/tree.c $(ours)/examples/tree.py

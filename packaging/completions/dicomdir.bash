@@ -1,11 +1,12 @@
 # Completion of dicomdir(1), dicomdir-parallel(1) and dicomdir-slurm(1) for bash. docs/generate makes its block of
 # options.
-# shellcheck shell=bash disable=SC2053 # _dicomdir_valued and _dicomdir_filed are patterns
+# shellcheck shell=bash disable=SC2053 # _dicomdir_valued, _dicomdir_filed and _dicomdir_foldered are patterns
 
 # BEGIN Options
-_dicomdir_commands='index merge withdraw check list help'
-_dicomdir_valued='@(--files0-from|--hosts|--id|--last-options|--max-bytes|--part-options|--uid|-j)'
+_dicomdir_commands='index merge withdraw stage publish check list help'
+_dicomdir_valued='@(--files0-from|--from|--hosts|--id|--last-options|--max-bytes|--part-options|--per-task|--resume|--uid|-j)'
 _dicomdir_filed='@(--files0-from|--hosts)'
+_dicomdir_foldered='@(--from|--resume)'
 
 _dicomdir_options()
 {
@@ -14,10 +15,12 @@ _dicomdir_options()
         index) echo '--id --uid --max-bytes --strict --dry-run --quiet --verbose --json --files0-from -k --keep-going -h --help' ;;
         merge) echo '--id --uid --max-bytes --strict --dry-run --quiet --verbose --json --files0-from --link -h --help' ;;
         withdraw) echo '--id --uid --max-bytes --strict --dry-run --quiet --verbose --json -h --help' ;;
+        stage) echo '--quiet --verbose --json --files0-from --from -h --help' ;;
+        publish) echo '--id --uid --max-bytes --strict --dry-run --quiet --verbose --json --files0-from --link --from -h --help' ;;
         check) echo '--keys --strict --quiet --verbose --json -h --help' ;;
         list) echo '--long --verbose --json -h --help' ;;
-        dicomdir-parallel) echo '-j --hosts' ;;
-        dicomdir-slurm) echo '-j --wait --part-options --last-options' ;;
+        dicomdir-parallel) echo '-j --hosts --resume' ;;
+        dicomdir-slurm) echo '-j --per-task --wait --resume --part-options --last-options' ;;
     esac
 }
 # END
@@ -68,16 +71,21 @@ _dicomdir()
 
     local choice=''
     if [[ $value == $_dicomdir_filed ]]; then _dicomdir_paths -f "$current"; fi
+    if [[ $value == $_dicomdir_foldered ]]; then _dicomdir_paths -d "$current"; fi
     case $value:$command:$paths in
         -*) ;;
         ::* | :help:0) choice=$_dicomdir_commands ;;
-        :index:0 | :merge:* | :withdraw:[01] | :check:0 | :list:0) _dicomdir_paths -d "$current" ;;
-        :index:*) _dicomdir_paths -f "$current" ;;
+        :index:0 | :stage:0 | :merge:* | :publish:* | :withdraw:[01] | :check:0 | :list:0)
+            _dicomdir_paths -d "$current"
+            ;;
+        :index:* | :stage:*) _dicomdir_paths -f "$current" ;;
     esac
     if [[ ! $value && ! $ended && $current == -* ]]; then
         choice="$own $(_dicomdir_options "$command")"
-        if [[ $current == $_dicomdir_filed=* ]]; then
-            [[ " $choice " != *" ${current%%=*} "* ]] || _dicomdir_paths -f "${current#*=}" "${current%%=*}="
+        if [[ $current == $_dicomdir_filed=* || $current == $_dicomdir_foldered=* ]]; then
+            word=-f
+            [[ $current == $_dicomdir_filed=* ]] || word=-d
+            [[ " $choice " != *" ${current%%=*} "* ]] || _dicomdir_paths "$word" "${current#*=}" "${current%%=*}="
             choice=''
         fi
     fi

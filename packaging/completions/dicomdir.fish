@@ -7,6 +7,10 @@ complete -c dicomdir -n '__fish_use_subcommand; or __fish_seen_subcommand_from h
     -d 'Makes a file-set of others: copies their images, writes its DICOMDIR'
 complete -c dicomdir -n '__fish_use_subcommand; or __fish_seen_subcommand_from help' -a withdraw \
     -d 'Makes a file-set of one without some images, which no merge brings back'
+complete -c dicomdir -n '__fish_use_subcommand; or __fish_seen_subcommand_from help' -a stage \
+    -d 'Copies files to a pile, with a list of what they are, for publish'
+complete -c dicomdir -n '__fish_use_subcommand; or __fish_seen_subcommand_from help' -a publish \
+    -d 'Makes a file-set of piles, as index does of their sources'
 complete -c dicomdir -n '__fish_use_subcommand; or __fish_seen_subcommand_from help' -a check \
     -d 'Checks that the files which a DICOMDIR names are there and unchanged'
 complete -c dicomdir -n '__fish_use_subcommand; or __fish_seen_subcommand_from help' -a list \
@@ -17,28 +21,30 @@ complete -c dicomdir -s h -l help \
     -d 'Print help'
 complete -c dicomdir -n '__fish_use_subcommand' -s V -l version \
     -d 'Print version'
-complete -c dicomdir -n '__fish_seen_subcommand_from index merge withdraw' -l id -x \
+complete -c dicomdir -n '__fish_seen_subcommand_from index merge withdraw publish' -l id -x \
     -d 'ID of the file-set, such as DISC1; by default empty'
-complete -c dicomdir -n '__fish_seen_subcommand_from index merge withdraw' -l uid -x \
+complete -c dicomdir -n '__fish_seen_subcommand_from index merge withdraw publish' -l uid -x \
     -d 'UID of the file-set; else made from its content'
-complete -c dicomdir -n '__fish_seen_subcommand_from index merge withdraw' -l max-bytes -x \
+complete -c dicomdir -n '__fish_seen_subcommand_from index merge withdraw publish' -l max-bytes -x \
     -d 'Most bytes of DICOMDIR, not of the disc, such as 650M or 3G'
-complete -c dicomdir -n '__fish_seen_subcommand_from index merge withdraw' -l strict \
+complete -c dicomdir -n '__fish_seen_subcommand_from index merge withdraw publish' -l strict \
     -d 'Makes nothing where something would be left out'
-complete -c dicomdir -n '__fish_seen_subcommand_from index merge withdraw' -l dry-run \
+complete -c dicomdir -n '__fish_seen_subcommand_from index merge withdraw publish' -l dry-run \
     -d 'Makes nothing, and says what it would make'
-complete -c dicomdir -n '__fish_seen_subcommand_from index merge withdraw check' -l quiet \
+complete -c dicomdir -n '__fish_seen_subcommand_from index merge withdraw stage publish check' -l quiet \
     -d 'Shows no progress and no hints'
-complete -c dicomdir -n '__fish_seen_subcommand_from index merge withdraw check list' -l verbose \
+complete -c dicomdir -n '__fish_seen_subcommand_from index merge withdraw stage publish check list' -l verbose \
     -d 'Shows hints where there is no terminal, too'
-complete -c dicomdir -n '__fish_seen_subcommand_from index merge withdraw check list' -l json \
+complete -c dicomdir -n '__fish_seen_subcommand_from index merge withdraw stage publish check list' -l json \
     -d 'Prints each line as a JSON object'
-complete -c dicomdir -n '__fish_seen_subcommand_from index merge' -l files0-from -r -F \
+complete -c dicomdir -n '__fish_seen_subcommand_from index merge stage publish' -l files0-from -r -F \
     -d 'Reads names from FILE, or -, ended by zero bytes'
 complete -c dicomdir -n '__fish_seen_subcommand_from index' -s k -l keep-going \
     -d 'Skips a SRC that can'\''t be opened or read; the status is then 3'
-complete -c dicomdir -n '__fish_seen_subcommand_from merge' -l link \
+complete -c dicomdir -n '__fish_seen_subcommand_from merge publish' -l link \
     -d 'Makes hard links to the images in place of copies'
+complete -c dicomdir -n '__fish_seen_subcommand_from stage publish' -l from -x -a '(__fish_complete_directories)' \
+    -d 'Looks up each path but PILE in FOLDER, and prints it as given'
 complete -c dicomdir -n '__fish_seen_subcommand_from check' -l keys \
     -d 'Also compares what each image says of itself with its record'
 complete -c dicomdir -n '__fish_seen_subcommand_from check' -l strict \
@@ -48,5 +54,7 @@ complete -c dicomdir -n '__fish_seen_subcommand_from list' -l long \
 complete -c dicomdir -n '__fish_seen_subcommand_from index' -F
 complete -c dicomdir -n '__fish_seen_subcommand_from merge' -a '(__fish_complete_directories)'
 complete -c dicomdir -n '__fish_seen_subcommand_from withdraw' -a '(__fish_complete_directories)'
+complete -c dicomdir -n '__fish_seen_subcommand_from stage' -F
+complete -c dicomdir -n '__fish_seen_subcommand_from publish' -a '(__fish_complete_directories)'
 complete -c dicomdir -n '__fish_seen_subcommand_from check' -a '(__fish_complete_directories)'
 complete -c dicomdir -n '__fish_seen_subcommand_from list' -a '(__fish_complete_directories)'
