@@ -117,8 +117,8 @@ pub trait Files: Write {
         ensures linked { IsOk result → held self.new
             ≡ option_map (linked from.now path.now) (held self.old) };
 
-    /// Gives the file at exactly the path `from` the hard link `path` as `link` does, where it has `size` bytes. Changed
-    /// where it has another number of bytes. Its bytes were stored before, so that the new name alone is to be stored.
+    /// Gives the file at exactly the path `from` the hard link `path` as `link` does, where it has `size` bytes.
+    /// Changed where it has another number. Its bytes were stored before, so only the new name is to be stored.
     fn link_stored(&mut self, from: &str, path: &str, size: u64) -> Result<(), LinkFault>
         ensures call { IsCall Self.Write refusals held result self.old self.new }
         ensures there { IsOk result → IfSome (held self.old)

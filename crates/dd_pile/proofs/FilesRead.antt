@@ -10,7 +10,7 @@ use Rattle.dd_files.specs.declared.whole.ReadFault.TheVariants.{TooLong}
 use Rattle.dd_pile.specs.Lists.{IfList}
 use Rattle.dd_pile.specs.Paths.{IsListPath}
 
--- the file has the bytes that were given, and then those that are left
+-- the reader gave the first bytes of the file, and has the rest still to give
 pub record IsGiven (file left : Option (List ℕ)) (given : List ℕ) : Type 0 where
   pub bytes : List ℕ
   pub rest : List ℕ

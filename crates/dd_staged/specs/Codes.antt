@@ -10,8 +10,8 @@ use Rattle.dd_keys.specs.declared.fault.KeyFault.{KeyFault}
 use Rattle.dd_keys.specs.declared.fault.KeyFault.TheVariants as key_faults
 use Rattle.dd_staged.specs.declared.code.Code.{Code}
 
--- a fault by its number, the number of its cause and that of the cause below it, or 0; then a 0, which
--- makes the length even
+-- A fault as four numbers: its own, the one of its cause, the one of what caused that, and a 0 that makes the length
+-- even. Where there is no cause the number is 0.
 abbrev pub plain : ℕ → ℕ → ℕ → Code
 plain number cause deeper = record {
   numbers = number ∷ cause ∷ deeper ∷ 0 ∷ [];

@@ -13,7 +13,7 @@ use dd_part10::FileFault;
 /// Why a source has no version.
 #[derive(Clone, Copy)]
 pub(crate) struct Code {
-    /// The number of the fault, that of its cause, that of the cause below it, and a 0.
+    /// The numbers of the fault, of its cause, and of what caused that; then a 0.
     pub(crate) numbers: [u8; 4],
     /// The tag that it names, spelled.
     pub(crate) tag: [u8; 4],

@@ -1,4 +1,4 @@
-//! Elements that were read, against those that are written.
+//! Compares the elements of an item that was read with those that its source has when it is written.
 
 ghost use Rattle.std.specs.Prelude.{◌≡◌, ◌↔◌, ◌++◌, IsTrue, map};
 ghost use Rattle.dd_encoding.specs.Elements.{elements_of};

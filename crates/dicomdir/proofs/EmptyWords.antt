@@ -49,7 +49,7 @@ folder_seen (Some folder) None is some = absurd (cc)
 folder_seen (Some folder) (Some path) is some =
     λ empty. some (same_Some path.now (string_bytes folder) is ∙ empty)
 
--- a request has no empty path where the folder that it writes to is none, and none of those that it reads is empty
+-- a request has no empty path where neither the folder that it writes to nor any path that it reads is empty
 pub none_empty : (r : Request) → IfSome (written_of r) (λ folder. ¬ (string_bytes folder ≡ []))
     → ((at : ℕ) → ¬ IsEmptyAt (read_of r) at) → RequestsEmptyPath r → ⊥
 none_empty r folder sources (at, is) = go (written_of r) folder is

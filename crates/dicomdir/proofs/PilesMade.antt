@@ -83,7 +83,7 @@ same_size lists piled is at =
     (record { pile = 0; number = 0; size = 0 }))
     ∙ ap (λ (sizes : List ℕ). get_or sizes at 0) is.places.sizes
 
--- the bytes of the images are those that the lists say
+-- by the places of the picks their images have as many bytes as by the lists
 same_bytes : (lists : List (List Source)) (piled : Piled) (picks : List ℕ) → IsPiled lists piled
     → placed_bytes piled.places.items picks ≡ image_bytes lists picks
 same_bytes lists piled picks is = ap (λ (n : ℕ). min n last_count) (sums picks) where

@@ -1,4 +1,4 @@
--- The versions that `publish` takes are those that the lists of its piles say.
+-- `publish` takes exactly the versions of sources that the lists of its piles have.
 use Rattle.std.proofs.Common.{◌≡◌, ◌∙◌, ℕ, suc, List, [], ◌∷◌, Some, Ok, Err, ap, inl, inr, map, refl, subst, sym}
 use Rattle.std.specs.Prelude.{◌++◌}
 use Rattle.std.proofs.lemmas.List.{map-append}

@@ -9,7 +9,7 @@ use Rattle.dd_pile.specs.declared.sum.StageSum.{StageSum}
 use Rattle.dicomdir.specs.From.{is_absolute, looked_up}
 use Rattle.dicomdir.specs.Stages.{MakesNamed}
 
--- in the current folder a path is looked up as it is
+-- in the current folder a relative path is looked up like an absolute one
 either_same : (absolute : Bool) (path : Text) → path ≡ if absolute then path else path
 either_same true path = refl
 either_same false path = refl

@@ -192,8 +192,8 @@ abbrev pub IsSaidBy : List Text → (Text → Run) → Parts → Type 0
 IsSaidBy folders part version = (folder : Text) × Contains folders folder
     × SaysVersion (part folder).verb (part folder).given (part folder).old version
 
--- The sets that `merge` is given have the directories that runs over parts left. Another command reads the whole: the
--- versions that it says are those that the parts say. It says one of each instance at most, and withdraws nothing.
+-- The sets that `merge` is given have the directories that runs over parts left. Another command reads the whole: it
+-- finds the versions that the parts find together, one of each instance at most, and withdraws nothing.
 pub record MergesParts (verb : Verb) (given others : List Row) (old first : Held) : Type 0 where
   pub folders : List Text
   pub are : AreGivenFolders others first folders

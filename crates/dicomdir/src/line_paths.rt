@@ -97,7 +97,7 @@ pub(crate) fn from_of(request: &Request) -> &str
     }
 }
 
-/// Gives the path at which a path of the line is looked up in this folder. An absolute path is looked up as it is.
+/// Gives the path at which a path of the line is looked up in this folder. An absolute path stays the same.
 pub(crate) fn looked_up(alloc: Global, from: &str, path: &str) -> Result<String, Memory>
     ensures { IfOk result (λ found. string_bytes found ≡ looked_up from.now path.now) }
 {

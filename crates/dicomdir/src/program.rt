@@ -74,7 +74,7 @@ struct Work<'a> {
 /// A path that is empty is refused before any file is opened: OUT as a folder that is not made, any other
 /// as a file that is not there.
 ///
-/// `stage [--files0-from FILE] [--from FOLDER] PILE SRC...` copies each source to the new folder PILE as it is, writes
+/// `stage [--files0-from FILE] [--from FOLDER] PILE SRC...` copies each source's bytes to the new folder PILE, writes
 /// PILE/STAGED, which says of each what it is or what is wrong with it, and prints
 /// `DONE <n> sources, <s> skipped, <b> bytes of images`. `publish [--id ID] [--uid UID] [--max-bytes N] [--link]
 /// [--files0-from FILE] [--from FOLDER] OUT PILE...` makes and prints what `index` does of the sources of all these

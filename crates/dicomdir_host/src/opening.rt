@@ -10,8 +10,8 @@ use std::os::unix::fs::MetadataExt;
 pub enum Input<F: Read + Drop, S: Read + Drop> {
     /// A plain file whose size is said to be 0.
     Empty,
-    /// A plain file, or a folder, whose reads are refused. With it the size that it was said to have when it was opened,
-    /// or 0.
+    /// A plain file, or a folder, whose reads are refused. The number is the size that the system gave when it was
+    /// opened, or 0.
     File(F, u64),
     Standard(S),
 }
