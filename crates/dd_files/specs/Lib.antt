@@ -1,7 +1,9 @@
+pub mod Calls
 pub mod Copying
 pub mod Files
 pub mod Keeping
 pub mod Paths
 pub mod Pieces
+pub mod PowerCuts
 pub mod Progress
 pub mod ReadToEnd

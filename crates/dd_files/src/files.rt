@@ -1,7 +1,7 @@
 ghost use Rattle.std.specs.Prelude.{◌≡◌, ◌≢◌, ℕ, List, [], Option, None, Err, IsSome, IfSome, IsSomeAnd, IsOk, IfOk};
 ghost use Rattle.std.specs.Prelude.{IsTrue, length, option_map};
 ghost use Rattle.std.specs.Io.KnownBytes.{Appends};
-ghost use Rattle.dd_files.specs.Files.{Held, IsCall, IsUnread, ended, grown, linked, started, written};
+ghost use Rattle.dd_files.specs.Files.{Held, IsCall, IsUnread, ended, grown, linked, started, stored, written};
 
 use dd_elem::{Read, Write};
 use dd_slots::Lanes;
@@ -145,12 +145,12 @@ pub trait Files: Write {
         ensures bytes { Self.contents self.new ≡ Self.contents self.old }
         ensures rest { IsOk result → Self.rest self.new ≡ Self.rest self.old };
 
-    /// Stores the bytes of all ended files, and the name of each new file and folder.
+    /// Stores the bytes of all ended files, and the name of each new file and folder. After a power cut these are still
+    /// there, whole.
     fn store(&mut self) -> Result<(), NotDone>
         ensures call { IsCall Self.Write refusals held result self.old self.new }
-        ensures kept { held self.new ≡ held self.old }
-        ensures bytes { Self.contents self.new ≡ Self.contents self.old }
-        ensures rest { IsOk result → Self.rest self.new ≡ Self.rest self.old };
+        ensures stored { IsOk result → held self.new ≡ option_map stored (held self.old) }
+        ensures bytes { Self.contents self.new ≡ Self.contents self.old };
 
     /// Names the ended file, or the folder of new names, that was not stored when `store` or `store_batch` was refused.
     /// The current folder is `.`.
