@@ -1,3 +1,4 @@
+pub mod KeptCalls
 pub mod MemFiles
 pub mod MemLaws
 pub mod MemReader

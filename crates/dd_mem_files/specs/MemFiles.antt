@@ -10,6 +10,7 @@ use Rattle.dd_elem.specs.declared.counts.Counts.{Counts}
 use Rattle.dd_mem_files.specs.declared.later.Later.{Later}
 use Rattle.dd_mem_files.specs.MemReader.{Opened}
 use Rattle.dd_mem_files.specs.PlannedFaults.{FailingReader, Planned, after_call, after_opening, fails_at}
+use Rattle.dd_files.specs.Calls.{Call}
 use Rattle.dd_files.specs.Files.{Held, with_written, written}
 
 -- the path and the bytes of each file
@@ -73,6 +74,8 @@ pub record Stored : Type 0 where
   pub files : List (List ℕ × List ℕ)
   -- the path of the file that is being written
   pub current : Option (List ℕ)
+  -- the calls so far, the first of them first
+  pub calls : List Call
   -- the writes, and the other calls that were refused
   pub counts : Counts
   pub refusals : ℕ
@@ -114,7 +117,7 @@ OpensOrRefuses old new path (Err e) = new ≡ record old { refusals = counted ol
 
 -- what they hold
 abbrev pub held_of : Stored → Held
-held_of s = record { bytes_at = bytes_at s.files; current = s.current }
+held_of s = record { bytes_at = bytes_at s.files; current = s.current; calls = s.calls }
 
 -- what their contract says of it: nothing where a file is to change
 abbrev pub told : Option Change → Held → Option Held
@@ -150,6 +153,7 @@ emptied (Some bytes) = Some []
 pub record Unwritten : Type 0 where
   pub bytes_at : List ℕ → Option (List ℕ)
   pub current : Option (List ℕ)
+  pub calls : List Call
   pub refusals : ℕ
   pub later : Option Change
   pub call : ℕ
@@ -160,6 +164,7 @@ abbrev pub unwritten : Stored → Unwritten
 unwritten s = record {
   bytes_at = with_written s.current (emptied (written_of s)) (bytes_at s.files);
   current = s.current;
+  calls = s.calls;
   refusals = s.refusals;
   later = s.later;
   call = s.planned.call;

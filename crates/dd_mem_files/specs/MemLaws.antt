@@ -4,6 +4,7 @@ use Rattle.std.specs.Option.{option_and_then}
 use Rattle.std.specs.Io.KnownBytes.{Appends}
 use Rattle.std.specs.Prelude.{IfSome, option_map}
 use Rattle.dd_files.proofs.FileLaws.{file_here, file_there, files_but}
+use Rattle.dd_files.specs.Calls.{Call}
 use Rattle.dd_files.specs.Files.{Held, grown, with_written, written}
 use Rattle.dd_mem_files.specs.MemFiles.{Change, Stored, Unwritten, bytes_at, emptied, held_of, told, told_of, unwritten}
 use Rattle.dd_mem_files.specs.MemFiles.{written_of}
@@ -37,16 +38,18 @@ grown_at (Some path) old new bytes same adds =
     → Option (List ℕ)). files other) same ∙ file_there path other (emptied (old path)) old apart)
 
 -- the same, of files by their parts
-parts_grow : (c d : Option (List ℕ)) (f g : List ℕ → Option (List ℕ)) (bytes : List ℕ) → d ≡ c
+parts_grow : (c d : Option (List ℕ)) (f g : List ℕ → Option (List ℕ)) (calls : List Call) (bytes : List ℕ) → d ≡ c
     → with_written d (emptied (option_and_then g d)) g ≡ with_written c (emptied (option_and_then f c)) f
     → Appends (option_and_then f c) (option_and_then g d) bytes
-    → record { bytes_at = g; current = d } ≡ grown bytes (record { bytes_at = f; current = c })
-parts_grow c d f g bytes is =
+    → record { bytes_at = g; current = d; calls = calls }
+    ≡ grown bytes (record { bytes_at = f; current = c; calls = calls })
+parts_grow c d f g calls bytes is =
     let Same = λ (x : Option (List ℕ)). with_written x (emptied (option_and_then g x)) g ≡ with_written c (emptied
     (option_and_then f c)) f in
     subst (λ (x : Option (List ℕ)). Same x → Appends (option_and_then f c) (option_and_then g x) bytes
-    → record { bytes_at = g; current = x } ≡ grown bytes (record { bytes_at = f; current = c })) (sym is)
-    (λ same adds. ap (λ (files : List ℕ → Option (List ℕ)). record { bytes_at = files; current = c })
+    → record { bytes_at = g; current = x; calls = calls }
+    ≡ grown bytes (record { bytes_at = f; current = c; calls = calls })) (sym is)
+    (λ same adds. ap (λ (files : List ℕ → Option (List ℕ)). record { bytes_at = files; current = c; calls = calls })
     (grown_at c f g bytes same adds))
 
 -- the same, where the contract says what the files hold
@@ -59,9 +62,11 @@ told_grows (Some change) d h k bytes is grows = rw is refl
 pub held_grows : (old new : Stored) (bytes : List ℕ) → unwritten new ≡ unwritten old
     → Appends (written_of old) (written_of new) bytes → told_of new ≡ option_map (grown bytes) (told_of old)
 held_grows old new bytes same adds =
+    let grows = parts_grow old.current new.current (bytes_at old.files) (bytes_at new.files) old.calls bytes
+    (ap (λ (s : Unwritten). s.current) same) (ap (λ (s : Unwritten). s.bytes_at) same) adds in
+    let same_calls = ap (λ (s : Unwritten). s.calls) same in
     told_grows old.later new.later (held_of old) (held_of new) bytes (ap (λ (s : Unwritten). s.later) same)
-    (parts_grow old.current new.current (bytes_at old.files) (bytes_at new.files) bytes
-    (ap (λ (s : Unwritten). s.current) same) (ap (λ (s : Unwritten). s.bytes_at) same) adds)
+    (ap (λ (calls : List Call). record (held_of new) { calls = calls }) same_calls ∙ grows)
 
 -- the bytes that are being written, where the contract says what the files hold
 told_written : (later : Option Change) (h : Held) → IfSome (told later h) (λ now. written h ≡ written now)

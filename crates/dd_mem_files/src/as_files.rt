@@ -1,10 +1,13 @@
-ghost use Rattle.std.specs.Prelude.{◌≡◌, ◌≢◌, ◌↔◌, ◌<◌, [], Err, None, Some, IsErr, IsOk, IsSome, OnErr, OnOk};
-ghost use Rattle.std.specs.Prelude.{IfSome, IsSomeAnd, IsTrue, codes, false, length};
+ghost use Rattle.std.specs.Prelude.{◌≡◌, ◌≢◌, ◌↔◌, ◌<◌, [], ◌∷◌, ◌++◌, Err, None, Some, IsErr, IsOk, IsSome, OnErr};
+ghost use Rattle.std.specs.Prelude.{IfSome, IsSomeAnd, IsTrue, OnOk, codes, false, length};
 ghost use Rattle.dd_elem.specs.Device.{HasWorked, counted, last_count};
+ghost use Rattle.dd_files.specs.Calls.{Create, Link, Store};
+ghost use Rattle.dd_files.specs.Files.{end_of};
 ghost use Rattle.dd_mem_files.specs.MemFiles.{LinksFile, MayCall, OpensOrRefuses, SetsFile, bytes_at, called, refused};
 ghost use Rattle.dd_mem_files.specs.MemFiles.{told_of};
 ghost use Rattle.dd_mem_files.specs.MemLaws.{held_grows, refusals_stay, told_contents};
 
+use crate::calls::Call;
 use crate::mem_files::MemFiles;
 use crate::mem_reader::MemReader;
 use dd_files::{Cause, Files, Hints, LinkFault, NotDone, NotThere, Progress, Step};
@@ -100,9 +103,13 @@ impl Files for MemFiles {
         ensures free { OnOk result (bytes_at self.old.files path.now ≡ None) }
         ensures ok { OnOk result (SetsFile self.old.files self.new.files path.now []) }
         ensures started { OnOk result (self.new.current ≡ Some path.now) }
+        ensures kept { OnOk result (self.new.calls ≡ self.old.calls ++ Create path.now ∷ []) }
         ensures err { OnErr result (self.new ≡ refused self.old) }
-        ensures same { OnOk result (self.new
-            ≡ record (called self.old) { files = self.new.files; current = self.new.current }) }
+        ensures same { OnOk result (self.new ≡ record (called self.old) {
+          files = self.new.files;
+          current = self.new.current;
+          calls = self.new.calls;
+        }) }
     {
         if self.count_call() && self.bytes(path).is_none() && self.start(path).is_ok() {
             return Ok(());
@@ -121,9 +128,12 @@ impl Files for MemFiles {
         ensures ok { OnOk result (LinksFile self.old.files self.new.files from.now path.now) }
         ensures unchanged { result ≢ Err LinkFault.Changed }
         ensures taken { result ≡ Err LinkFault.Taken → IsSome (bytes_at self.old.files path.now) }
+        ensures kept { OnOk result (self.new.calls
+            ≡ self.old.calls ++ Link from.now path.now ∷ []) }
         ensures err { OnErr result (self.new
             ≡ record self.old { refusals = counted self.old.refusals }) }
-        ensures same { OnOk result (self.new ≡ record self.old { files = self.new.files }) }
+        ensures same { OnOk result (self.new
+            ≡ record self.old { files = self.new.files; calls = self.new.calls }) }
     {
         let answer = if self.refusals < u64::MAX {
             self.copy_to(from, path)
@@ -148,9 +158,12 @@ impl Files for MemFiles {
         ensures changed { result ≡ Err LinkFault.Changed ↔ (self.old.refusals < last_count)
             × IsSomeAnd (bytes_at self.old.files from.now) (λ bytes. length bytes ≢ size) }
         ensures taken { result ≡ Err LinkFault.Taken → IsSome (bytes_at self.old.files path.now) }
+        ensures kept { OnOk result (self.new.calls
+            ≡ self.old.calls ++ Link from.now path.now ∷ []) }
         ensures err { OnErr result (self.new
             ≡ record self.old { refusals = counted self.old.refusals }) }
-        ensures same { OnOk result (self.new ≡ record self.old { files = self.new.files }) }
+        ensures same { OnOk result (self.new
+            ≡ record self.old { files = self.new.files; calls = self.new.calls }) }
     {
         if self.refusals < u64::MAX && self.has_other_size(from, size) {
             self.refuse();
@@ -159,34 +172,27 @@ impl Files for MemFiles {
         self.link("", from, path)
     }
 
-    /// Ends the file that is being written. Writes then fail until the next file is started.
+    /// Ends the file that is being written. Writes then fail until the next file is started. NotDone where the call is
+    /// to be refused, an allocation is refused or the refusals are at their last value.
     fn finish(&mut self) -> Result<(), NotDone>
         ensures worked { IsOk result → HasWorked self.old.refusals self.new.refusals }
         ensures refused { IsErr result → self.new.refusals ≡ counted self.old.refusals }
-        ensures done { IsOk result ↔ MayCall self.old }
-        ensures ok { OnOk result (self.new ≡ record (called self.old) { current = None }) }
+        ensures may { IsOk result → MayCall self.old }
+        ensures ok { OnOk result (self.new ≡ record (called self.old) {
+          current = None;
+          calls = self.old.calls ++ end_of self.old.current;
+        }) }
         ensures err { OnErr result (self.new ≡ refused self.old) }
     {
-        if !self.count_call() {
-            self.refuse();
-            return Err(NotDone);
+        if self.count_call() && self.end().is_ok() {
+            return Ok(());
         }
-        self.current = None;
-        Ok(())
+        self.refuse();
+        Err(NotDone)
     }
 
-    /// Does nothing, since all is stored when it is made.
+    /// Does nothing, and is not kept as a call: it puts that off to `store`.
     fn store_batch(&mut self) -> Result<(), NotDone>
-        ensures worked { IsOk result → HasWorked self.old.refusals self.new.refusals }
-        ensures refused { IsErr result → self.new.refusals ≡ counted self.old.refusals }
-        ensures done { IsOk result ↔ (self.old.refusals < last_count) }
-        ensures same { self.new ≡ self.old }
-    {
-        self.store()
-    }
-
-    /// Does nothing, since all is stored when it is made.
-    fn store(&mut self) -> Result<(), NotDone>
         ensures worked { IsOk result → HasWorked self.old.refusals self.new.refusals }
         ensures refused { IsErr result → self.new.refusals ≡ counted self.old.refusals }
         ensures done { IsOk result ↔ (self.old.refusals < last_count) }
@@ -197,6 +203,23 @@ impl Files for MemFiles {
         } else {
             Err(NotDone)
         }
+    }
+
+    /// Keeps the call alone, since all is stored when it is made. NotDone where an allocation is refused or the
+    /// refusals are at their last value.
+    fn store(&mut self) -> Result<(), NotDone>
+        ensures worked { IsOk result → HasWorked self.old.refusals self.new.refusals }
+        ensures refused { IsErr result → self.new.refusals ≡ counted self.old.refusals }
+        ensures ok { OnOk result (self.new
+            ≡ record self.old { calls = self.old.calls ++ Store ∷ [] }) }
+        ensures err { OnErr result (self.new
+            ≡ record self.old { refusals = counted self.old.refusals }) }
+    {
+        if self.refusals < u64::MAX && self.calls.push(Call::Store).is_ok() {
+            return Ok(());
+        }
+        self.refuse();
+        Err(NotDone)
     }
 
     /// Names the current folder, since all is stored.

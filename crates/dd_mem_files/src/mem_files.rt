@@ -1,25 +1,24 @@
 //! Files in memory.
-ghost use Rattle.std.specs.Prelude.{◌≡◌, ◌≢◌, IsSome, IsSomeAnd, is_ok, IfSome, ◌↔◌, [], None, Some, IsOk, false};
-ghost use Rattle.std.specs.Prelude.{length, Err, IsTrue, OnOk, OnErr, option_map, option_copied, string_bytes, true};
-ghost use Rattle.std.specs.Io.{WritesAtMost};
-ghost use Rattle.std.specs.Io.KnownBytes.{WriteAppends};
-ghost use Rattle.dd_elem.specs.Counts.{counts_after};
-ghost use Rattle.dd_elem.specs.Device.{counted, IsLive};
-ghost use Rattle.dd_mem_files.specs.MemFiles.{Adds, Stored, Unwritten, listed, bytes_at, change_of, unread, unwritten};
-ghost use Rattle.dd_mem_files.specs.MemFiles.{written_of, SetsFile, MayCall, called};
-ghost use Rattle.dd_mem_files.specs.MemFiles.{Gets, LinksFile, Opens, OpensOrRefuses, due};
+ghost use Rattle.std.specs.Prelude.{◌≡◌, ◌≢◌, ◌↔◌, [], ◌∷◌, ◌++◌, length, false, true, None, Some, Err, IsOk, IsSome};
+ghost use Rattle.std.specs.Prelude.{IfSome, IsSomeAnd, IsTrue, OnOk, OnErr, option_map, option_copied, string_bytes};
+ghost use Rattle.dd_elem.specs.Device.{counted};
+ghost use Rattle.dd_files.specs.Calls.{Create, Link};
+ghost use Rattle.dd_files.specs.Files.{end_of};
+ghost use Rattle.dd_mem_files.specs.KeptCalls.{call_of, calls_of};
+ghost use Rattle.dd_mem_files.specs.MemFiles.{Adds, Gets, LinksFile, MayCall, Opens, OpensOrRefuses, SetsFile, Stored};
+ghost use Rattle.dd_mem_files.specs.MemFiles.{bytes_at, called, change_of, due, listed, unread};
 ghost use Rattle.dd_mem_files.specs.PlannedFaults.{after_write, fails_at, nothing_planned};
 
+use crate::calls::Call;
 use crate::contents::{append, set};
 use crate::later::{Later, count_opening, due_bytes};
 use crate::mem_reader::MemReader;
 use crate::planned_faults::PlannedFaults;
-use dd_elem::{Counts, Memory, Write};
+use dd_elem::{Counts, Memory};
 use dd_files::{LinkFault, NotDone, NotThere};
 use dd_slots::Lanes;
 use std::alloc::Global;
 use std::collections::BTreeMap;
-use std::io;
 use std::marker::Model;
 
 /// Holds files by their paths, and no folders. Where a file is to change later, the contract does not say what the
@@ -28,8 +27,9 @@ use std::marker::Model;
 pub struct MemFiles {
     alloc: Global,
     files: BTreeMap<String, Vec<u8>>,
-    pub(crate) current: Option<String>,
-    counts: Counts,
+    current: Option<String>,
+    pub(crate) calls: Vec<Call>,
+    pub(crate) counts: Counts,
     pub(crate) refusals: u64,
     later: Option<Later>,
     planned: PlannedFaults,
@@ -43,6 +43,7 @@ impl Drop for MemFiles {
             alloc: _,
             files: _files,
             current: _current,
+            calls: _calls,
             counts: _,
             refusals: _,
             later: _later,
@@ -58,6 +59,7 @@ impl Model for MemFiles {
     ghost view = { λ s. record {
       files = listed s.files;
       current = option_map string_bytes s.current;
+      calls = calls_of s.calls.items;
       counts = s.counts;
       refusals = s.refusals;
       later = option_map change_of s.later;
@@ -71,6 +73,7 @@ impl MemFiles {
         ensures { result ≡ record {
           files = [];
           current = None;
+          calls = [];
           counts = record { calls = 0; failures = 0 };
           refusals = 0;
           later = None;
@@ -81,6 +84,7 @@ impl MemFiles {
             alloc,
             files: BTreeMap::new(alloc),
             current: None,
+            calls: Vec::new(alloc),
             counts: Counts::new(),
             refusals: 0,
             later: None,
@@ -226,18 +230,68 @@ impl MemFiles {
         Err(NotThere)
     }
 
+    // Gives the path these bytes by a call, which is kept. Memory where an allocation is refused.
+    fn put_by(&mut self, call: Call, path: &str, content: &[u8]) -> Result<(), Memory>
+        ensures ok { OnOk result (SetsFile self.old.files self.new.files path.now content.now) }
+        ensures kept { OnOk result (self.new.calls ≡ self.old.calls ++ call_of call ∷ []) }
+        ensures err { OnErr result (self.new ≡ self.old) }
+        ensures same { self.new
+            ≡ record self.old { files = self.new.files; calls = self.new.calls } }
+    {
+        self.calls.reserve(1)?;
+        set(self.alloc, &mut self.files, path, content)?;
+        self.calls.push(call)?;
+        Ok(())
+    }
+
     /// Starts an empty file at the path, to which later writes go.
     pub(crate) fn start(&mut self, path: &str) -> Result<(), Memory>
         ensures ok { OnOk result (SetsFile self.old.files self.new.files path.now []) }
         ensures started { OnOk result (self.new.current ≡ Some path.now) }
+        ensures kept { OnOk result (self.new.calls ≡ self.old.calls ++ Create path.now ∷ []) }
         ensures err { OnErr result (self.new ≡ self.old) }
-        ensures same { self.new
-            ≡ record self.old { files = self.new.files; current = self.new.current } }
+        ensures same { self.new ≡ record self.old {
+          files = self.new.files;
+          current = self.new.current;
+          calls = self.new.calls;
+        } }
     {
         let name = String::from_str(self.alloc, path)?;
-        self.put(path, &[])?;
+        let call = Call::Create(String::from_str(self.alloc, path)?);
+        self.put_by(call, path, &[])?;
         self.current = Some(name);
         Ok(())
+    }
+
+    /// Ends the file that is being written, where there is one.
+    pub(crate) fn end(&mut self) -> Result<(), Memory>
+        ensures ok { OnOk result (self.new ≡ record self.old {
+          current = None;
+          calls = self.old.calls ++ end_of self.old.current;
+        }) }
+        ensures err { OnErr result (self.new ≡ self.old) }
+    {
+        if self.current.is_some() {
+            self.calls.reserve(1)?;
+        }
+        if let Some(path) = self.current.take() {
+            self.calls.push(Call::End(path))?;
+        }
+        Ok(())
+    }
+
+    // Gives the path these bytes as a link to the file at `from`.
+    fn put_link(&mut self, from: &str, path: &str, bytes: &[u8]) -> Result<(), Memory>
+        ensures ok { OnOk result (SetsFile self.old.files self.new.files path.now bytes.now) }
+        ensures kept { OnOk result (self.new.calls
+            ≡ self.old.calls ++ Link from.now path.now ∷ []) }
+        ensures err { OnErr result (self.new ≡ self.old) }
+        ensures same { self.new
+            ≡ record self.old { files = self.new.files; calls = self.new.calls } }
+    {
+        let from = String::from_str(self.alloc, from)?;
+        let name = String::from_str(self.alloc, path)?;
+        self.put_by(Call::Link(from, name), path, bytes)
     }
 
     /// Does what `link` does, but neither checks nor counts the refusals.
@@ -246,8 +300,11 @@ impl MemFiles {
         ensures may { IsOk result → self.old.planned.no_links ≡ false }
         ensures unchanged { result ≢ Err LinkFault.Changed }
         ensures taken { result ≡ Err LinkFault.Taken → IsSome (bytes_at self.old.files path.now) }
+        ensures kept { OnOk result (self.new.calls
+            ≡ self.old.calls ++ Link from.now path.now ∷ []) }
         ensures err { OnErr result (self.new ≡ self.old) }
-        ensures same { self.new ≡ record self.old { files = self.new.files } }
+        ensures same { self.new
+            ≡ record self.old { files = self.new.files; calls = self.new.calls } }
     {
         let Some(copy) = self.copy(from) else {
             return Err(LinkFault::Absent);
@@ -258,10 +315,17 @@ impl MemFiles {
         if self.planned.refuses_links() {
             return Err(LinkFault::Refused);
         }
-        match self.put(path, &copy) {
+        match self.put_link(from, path, &copy) {
             Ok(()) => Ok(()),
             Err(_) => Err(LinkFault::Refused),
         }
+    }
+
+    /// Gives the calls so far, the first of them first.
+    pub fn calls(&self) -> &[Call]
+        ensures { calls_of result.now ≡ self.now.calls }
+    {
+        &self.calls
     }
 
     /// Says whether a file is at the path that has another number of bytes.
@@ -301,9 +365,9 @@ impl MemFiles {
         self.refusals = self.refusals.saturating_add(1);
     }
 
-    // Appends what a write takes of the bytes. NotDone where no file is being written, an allocation is refused or
-    // writes are to fail.
-    fn append(&mut self, bytes: &[u8]) -> Result<usize, NotDone>
+    /// Appends what a write takes of the bytes. NotDone where no file is being written, an allocation is refused or
+    /// writes are to fail.
+    pub(crate) fn append(&mut self, bytes: &[u8]) -> Result<usize, NotDone>
         ensures adds { Adds bytes.now result self.old self.new }
         ensures same { self.new ≡ record self.old {
           files = self.new.files;
@@ -319,40 +383,5 @@ impl MemFiles {
         }
         self.planned.take(n);
         Ok(n)
-    }
-}
-
-impl Write for MemFiles {
-    ghost calls = { λ s. s.counts.calls };
-
-    ghost failures = { λ s. s.counts.failures };
-
-    ghost contents = { λ s. written_of s };
-
-    ghost Rest = { Unwritten };
-
-    ghost rest = { unwritten };
-
-    /// Appends the whole piece, or what fits before writes are to fail, to the file that is being written. Fails where
-    /// writes are to fail, where there is no such file, where a count is at its last value and where an allocation is
-    /// refused.
-    fn write(&mut self, bytes: &[u8]) -> io::Result<usize>
-        ensures bound { WritesAtMost result bytes.now }
-        ensures appends { WriteAppends (written_of self.old)
-            (written_of self.new) result bytes.now }
-        ensures live { IsOk result → IsLive self.old.counts.calls self.old.counts.failures }
-        ensures adds { Adds bytes.now result self.old self.new }
-        ensures counts { self.new.counts ≡ counts_after self.old.counts (is_ok result) }
-        ensures same { self.new ≡ record self.old {
-          files = self.new.files;
-          counts = self.new.counts;
-          planned = after_write self.old.planned result;
-        } }
-    {
-        self.counts.begin()?;
-        let done = self
-            .append(bytes)
-            .map_err(|_| io::Error::other("no file took the bytes"));
-        self.counts.settle(done)
     }
 }
