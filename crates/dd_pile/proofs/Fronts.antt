@@ -6,7 +6,9 @@ use Rattle.dd_filing.specs.Copies.{IsAheadCopy, IsRefusedSource}
 use Rattle.dd_filing.specs.Taken.{Taken}
 use Rattle.dd_filing.specs.declared.copying.FilingFault.{FilingFault}
 use Rattle.dd_filing.specs.declared.copying.FilingFault.TheVariants.{Changed, Memory, Unread, Unsent}
-use Rattle.dd_stream.specs.Sends.{GoesTo, StopsIn}
+use Rattle.dd_stream.specs.Sends.{GoesTo, StopsBy, StopsIn, counts_of}
+use Rattle.dd_stream.specs.declared.write_fault.WriteFault.{WriteFault}
+use Rattle.dd_stream.specs.declared.write_fault.WriteFault.TheVariants.{NotWritable, Write}
 
 -- these bytes went to the writer
 pub record Front {W : Type 0} (writer : WriteOf W) (old new : W) : Type 0 where
@@ -36,3 +38,10 @@ source_front writer old new Memory limit given left failures after h = went writ
 source_front writer old new Unread limit given left failures after h = went writer given old new h.1
 source_front writer old new Unsent limit given left failures after h = stopped writer given h.1.0 old new h.1.1
 source_front writer old new Changed limit given left failures after h = absurd h
+
+pub list_front : {W : Type 0} (writer : WriteOf W) (old new : W) (fault : WriteFault) (text : List ℕ)
+    → StopsBy text 0 fault (writer.contents old, writer.rest old) (writer.contents new, writer.rest new)
+    (counts_of writer old) (counts_of writer new)
+    → Front writer old new
+list_front writer old new (Write k) text h = stopped writer text k old new h
+list_front writer old new NotWritable text h = absurd h

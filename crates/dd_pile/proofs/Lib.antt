@@ -4,6 +4,8 @@ mod FilesRead
 mod Fronts
 mod Kept
 mod KnownAhead
+mod ListLast
+pub mod OnePaths
 mod PilePaths
 mod Refused
 mod StagedCopies

@@ -38,3 +38,8 @@ not_large r at refusal is of = λ large.
     let e : Err refusal ≡ Err refusals.ListTooLarge = sym is ∙ large in
     let same : refusal ≡ refusals.ListTooLarge = cc in
     subst (IsOfCopy at) same of
+
+-- since the list is too large, where the result says so
+pub is_large : {T : Type 0} (r : Result T StageRefusal) (refusal : StageRefusal) → r ≡ Err refusal
+    → r ≡ Err refusals.ListTooLarge → refusal ≡ refusals.ListTooLarge
+is_large r refusal is large = let e : Err refusal ≡ Err refusals.ListTooLarge = sym is ∙ large in cc

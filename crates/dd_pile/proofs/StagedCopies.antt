@@ -8,15 +8,18 @@ use Rattle.std.specs.Prelude.{IfErr, IfSome, option_map, slice_get}
 use Rattle.dd_engine.specs.Indexing.{Answer}
 use Rattle.dd_engine.specs.Supply.{IsOfSource}
 use Rattle.dd_files.proofs.FileLaws.{file_here, file_there}
-use Rattle.dd_files.specs.Files.{Held, ended, published}
+use Rattle.dd_files.proofs.KeptFiles.{all_then, held_published, new_keeps}
+use Rattle.dd_files.specs.Files.{Held, ended, published, stored}
 use Rattle.dd_filing.specs.declared.source_copies.SourceCopy.{SourceCopy}
 use Rattle.dd_staged.specs.Sources.{Source, WasRead, source_view}
 use Rattle.dd_staged.specs.Stages.{stage_text}
 use Rattle.dd_staged.specs.declared.staged.Staged.{Staged}
-use Rattle.dd_pile.proofs.Kept.{file_stays, held_published}
+use Rattle.dd_pile.proofs.Kept.{said_both, said_change}
+use Rattle.dd_pile.proofs.ListLast.{list_stored}
 use Rattle.dd_pile.specs.Copies.{IsCopyOf, WritesCopy}
-use Rattle.dd_files.specs.Keeping.{IfSaid, IsFree, Keeps, KeepsAll}
-use Rattle.dd_pile.specs.Paths.{IsCopyPath, IsListPath}
+use Rattle.dd_files.specs.Keeping.{Adds, IfSaid, IsFree, Keeps, KeepsAll}
+use Rattle.dd_pile.specs.Last.{HaveEnded}
+use Rattle.dd_pile.specs.Paths.{IsCopyOfPile, IsCopyPath, IsListPath}
 use Rattle.dd_pile.specs.Piles.{CopiesStand, EachStaged, IsStaged, PileStands, StagesOne, WritesList}
 use Rattle.dd_pile.specs.declared.source.StageSource.{StageSource}
 
@@ -30,8 +33,9 @@ copy_stands : (pile : List ℕ) (number : ℕ) (source : StageSource) (copy : So
 copy_stands pile number source copy name path bytes None c place free made size of = made
 copy_stands pile number source copy name path bytes (Some held) c place free made size of =
     let listed : Source = record { name = name; size = copy.size; found = copy.found } in
+    let kept = new_keeps held (published path bytes held) path (Some bytes) refl free in
     subst (λ (x : Option Held). IfSaid (StagesOne pile number source listed) (Some held) x) (sym made) (record {
-      stays = record { stays = λ other was stood. file_stays path (Some bytes) held.bytes_at free other was stood };
+      stays = kept;
       staged = record {
         path = path;
         place = place;
@@ -41,7 +45,7 @@ copy_stands pile number source copy name path bytes (Some held) c place free mad
         size = size;
         of = record {
           bytes = of.bytes;
-          stands = file_stays path (Some bytes) held.bytes_at free source.path.now of.bytes of.stands;
+          stands = kept.stays source.path.now of.bytes of.stands;
           front = of.front;
           found = of.found;
         };
@@ -129,7 +133,7 @@ one_more : (pile : List ℕ) (sources : List StageSource) (list : List Source) (
 one_more pile sources list source listed a b c next before one =
     let many : length (list ++ listed ∷ []) ≡ length list + 1 = length_push list listed in
     record {
-      stays = record { stays = λ path bytes is. one.stays.stays path bytes (before.stays.stays path bytes is) };
+      stays = all_then a b c before.stays one.stays;
       each = λ at other its is itself. elim (last_or_before list listed its at itself) [
         | inl there ↦ staged_still pile (at + 1) other its a b c one.stays (before.each at other its is there)
         | inr here ↦
@@ -153,28 +157,34 @@ pub copies_more : (pile : List ℕ) (sources : List StageSource) (list : List So
     (listed : Source) (a b c : Option Held) → slice_get sources (length list) ≡ Some source
     → IfSaid (CopiesStand pile sources list) a b → IfSaid (StagesOne pile (length list + 1) source listed) b c
     → IfSaid (CopiesStand pile sources (list ++ listed ∷ [])) a c
-copies_more pile sources list source listed None b c next before one =
-    subst (λ (x : Option Held). IfSaid (StagesOne pile (length list + 1) source listed) x c) before one
-copies_more pile sources list source listed (Some a) None c next before one = absurd before
-copies_more pile sources list source listed (Some a) (Some b) None next before one = absurd one
-copies_more pile sources list source listed (Some a) (Some b) (Some c) next before one =
-    one_more pile sources list source listed a b c next before one
-
--- what stood stays
-pub copies_keep : (pile : List ℕ) (sources : List StageSource) (list : List Source) (a b : Option Held)
-    → IfSaid (CopiesStand pile sources list) a b → Keeps a b
-copies_keep pile sources list None b h = h
-copies_keep pile sources list (Some a) None h = h
-copies_keep pile sources list (Some a) (Some b) h = h.stays
+copies_more pile sources list source listed a b c next before one =
+    said_both (CopiesStand pile sources list) (StagesOne pile (length list + 1) source listed)
+    (CopiesStand pile sources (list ++ listed ∷ [])) a b c
+    (λ old mid new first last. one_more pile sources list source listed old mid new next first last) before one
 
 -- the copies stand after what stood has stayed
 pub each_since : (pile : List ℕ) (sources : List StageSource) (list : List Source) (a b c : Option Held)
     → IfSaid (CopiesStand pile sources list) a b → Keeps b c → IfSaid (EachStaged pile sources list) a c
-each_since pile sources list None b c before kept = subst (λ (x : Option Held). Keeps x c) before kept
-each_since pile sources list (Some a) None c before kept = absurd before
-each_since pile sources list (Some a) (Some b) None before kept = absurd kept
-each_since pile sources list (Some a) (Some b) (Some c) before kept = λ at source listed is its.
-    staged_still pile (at + 1) source listed a b c kept (before.each at source listed is its)
+each_since pile sources list a b c before kept =
+    said_both (CopiesStand pile sources list) KeepsAll (EachStaged pile sources list) a b c
+    (λ old mid new stand stays at source listed is its.
+    staged_still pile (at + 1) source listed old mid new stays (stand.each at source listed is its)) before kept
+
+-- a store changes no bytes
+pub copies_stored : (pile : List ℕ) (sources : List StageSource) (list : List Source) (a b c : Option Held)
+    → IfSaid (CopiesStand pile sources list) a b → c ≡ option_map stored b → IfSaid (CopiesStand pile sources list) a c
+copies_stored pile sources list a b c before safe =
+    let Same = λ (old new : Held). new ≡ stored old in
+    let same : IfSaid Same b c = said_change Same stored b c safe (λ held told. refl) in
+    said_both (CopiesStand pile sources list) Same (CopiesStand pile sources list) a b c
+    (λ old mid new stand is.
+    let kept : KeepsAll mid (stored mid) = record { stays = λ path bytes stood. stood } in
+    subst (λ (held : Held). CopiesStand pile sources list old held) (sym is) (record {
+      stays = all_then old mid (stored mid) stand.stays kept;
+      each = λ at source listed is its.
+          staged_still pile (at + 1) source listed old mid (stored mid) kept (stand.each at source listed is its);
+      others = λ other no. stand.others other no;
+    })) before same
 
 -- ---- as the program keeps the list
 
@@ -219,32 +229,39 @@ read_more old new one is before last =
 
 list_stands : (pile : List ℕ) (sources : List StageSource) (list : List Source) (a b : Held) (path : List ℕ)
     → IsListPath pile path → b.bytes_at path ≡ None → CopiesStand pile sources list a b
-    → PileStands pile sources list a (published path (stage_text list) b)
-list_stands pile sources list a b path place free before =
+    → Adds (IsCopyOfPile pile) a b → HaveEnded a b
+    → PileStands pile sources list a (stored (published path (stage_text list) (stored b)))
+list_stands pile sources list a b path place free before adds ended =
     let text = stage_text list in
-    let kept : KeepsAll b (published path text b) = record {
-      stays = λ other was stood. file_stays path (Some text) b.bytes_at free other was stood;
-    } in
+    let last = stored (published path text (stored b)) in
+    let kept = new_keeps b last path (Some text) refl free in
     record {
-      stays = record { stays = λ other was stood. kept.stays other was (before.stays.stays other was stood) };
+      stays = all_then a b last before.stays kept;
       each = λ at source listed is its.
-          staged_still pile (at + 1) source listed a b (published path text b) kept
-          (before.each at source listed is its);
+          staged_still pile (at + 1) source listed a b last kept (before.each at source listed is its);
       path = path;
       place = place;
       free = free_before a b path before.stays free;
       written = file_here path (Some text) b.bytes_at;
       others = λ other apart no. file_there path other (Some text) b.bytes_at apart ∙ before.others other no;
+      stored = list_stored pile path text a b adds ended free;
     }
 
-pub pile_stands : (pile : List ℕ) (sources : List StageSource) (list : List Source) (a b c : Option Held)
-    → IfSaid (CopiesStand pile sources list) a b → WritesList pile list b c → IfSaid (PileStands pile sources list) a c
-pile_stands pile sources list None b c before h =
-    h.made ∙ ap (λ (x : Option Held). option_map (published h.path (stage_text list)) x) before
-pile_stands pile sources list (Some a) None c before h = absurd before
-pile_stands pile sources list (Some a) (Some b) c before h =
-    subst (λ (x : Option Held). IfSaid (PileStands pile sources list) (Some a) x) (sym h.made)
-    (list_stands pile sources list a b h.path h.place h.free before)
+pub pile_stands : (pile : List ℕ) (sources : List StageSource) (list : List Source) (a b c d e : Option Held)
+    → IfSaid (CopiesStand pile sources list) a b → IfSaid (Adds (IsCopyOfPile pile)) a b → IfSaid HaveEnded a b
+    → c ≡ option_map stored b → WritesList pile list c d → e ≡ option_map stored d
+    → IfSaid (PileStands pile sources list) a e
+pile_stands pile sources list None b c d e before adds ended safe h last =
+    last ∙ ap (λ (x : Option Held). option_map stored x)
+    (h.made ∙ ap (λ (x : Option Held). option_map (published h.path (stage_text list)) x)
+    (safe ∙ ap (λ (x : Option Held). option_map stored x) before))
+pile_stands pile sources list (Some a) None c d e before adds ended safe h last = absurd before
+pile_stands pile sources list (Some a) (Some b) c d e before adds ended safe h last =
+    subst (λ (x : Option Held). IfSaid (PileStands pile sources list) (Some a) x)
+    (sym (last ∙ ap (λ (x : Option Held). option_map stored x)
+    (h.made ∙ ap (λ (x : Option Held). option_map (published h.path (stage_text list)) x) safe)))
+    (list_stands pile sources list a b h.path h.place (subst (λ (x : Option Held). IsFree h.path x) safe h.free) before
+    adds ended)
 
 -- ---- names
 

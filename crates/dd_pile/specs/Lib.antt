@@ -1,4 +1,5 @@
 pub mod Copies
+pub mod Last
 pub mod Lists
 pub mod Paths
 pub mod Piles

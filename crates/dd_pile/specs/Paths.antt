@@ -21,6 +21,10 @@ IsFolderPath pile number path = IsPathIn pile (folder_name number) path
 abbrev pub IsCopyPath : List ℕ → ℕ → List ℕ → Type 0
 IsCopyPath pile number path = IsPathIn pile (copy_name number) path
 
+-- the path of a copy in this pile
+abbrev pub IsCopyOfPile : List ℕ → List ℕ → Type 0
+IsCopyOfPile pile path = (number : ℕ) × IsCopyPath pile number path
+
 -- the path of the list
 abbrev pub IsListPath : List ℕ → List ℕ → Type 0
 IsListPath pile path = IsPathIn pile (codes "STAGED") path

@@ -6,6 +6,7 @@ use Rattle.dd_staged.specs.Sources.{Source}
 use Rattle.dd_staged.specs.Stages.{IsStage, stage_text}
 use Rattle.dd_pile.specs.Copies.{IsCopyOf}
 use Rattle.dd_files.specs.Keeping.{IfSaid, IsFree, KeepsAll}
+use Rattle.dd_files.specs.PowerCuts.{IsAllStored}
 use Rattle.dd_pile.specs.Paths.{IsCopyPath, IsListPath}
 use Rattle.dd_pile.specs.Refusals.{Names}
 use Rattle.dd_pile.specs.Sums.{AddsUp}
@@ -67,6 +68,8 @@ pub record PileStands (pile : List ℕ) (sources : List StageSource) (list : Lis
   pub written : new.bytes_at path ≡ Some (stage_text list)
   pub others : (other : List ℕ) → path ≢ other → ¬ IsOneOfCopies pile (length list) other
       → new.bytes_at other ≡ old.bytes_at other
+  -- After the last call nothing else can remain on a disc.
+  pub stored : IsAllStored old new
 
 -- A pile was made of these sources, each of which is listed in its place, by its name. The bytes of the list spell it,
 -- and this is its sum.

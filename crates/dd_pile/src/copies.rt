@@ -1,10 +1,12 @@
 //! The copies of sources in a pile.
 
-ghost use Rattle.std.specs.Prelude.{◌≡◌, ◌+◌, ◌<◌, ◌^◌, IfErr, IfOk, IsOk, option_map};
+ghost use Rattle.std.specs.Prelude.{◌≡◌, ◌+◌, ◌<◌, ◌^◌, ℕ, List, IfErr, IfOk, IsOk, option_map};
 ghost use Rattle.dd_files.specs.Files.{ended};
 ghost use Rattle.dd_filing.specs.declared.places.Ahead.TheVariants as known;
 ghost use Rattle.dd_pile.specs.Copies.{IsKnown, StartsCopy, WritesCopy};
-ghost use Rattle.dd_files.specs.Keeping.{IfSaid, Keeps};
+ghost use Rattle.dd_files.specs.Keeping.{Adds, IfSaid};
+ghost use Rattle.dd_pile.specs.Last.{HaveEnded};
+ghost use Rattle.dd_pile.specs.Paths.{IsCopyOfPile};
 ghost use Rattle.dd_pile.specs.Piles.{StagesOne};
 ghost use Rattle.dd_pile.specs.Refusals.{IsOfCopy};
 ghost use Rattle.dd_staged.specs.Sources.{WasRead, source_view};
@@ -39,9 +41,10 @@ pub(crate) fn stage_source<F: Files>(
     ensures staged { IfOk result (λ staged.
         IfSaid (StagesOne turn.now.pile.now (turn.now.at + 1) turn.now.source (source_view staged))
         (F.held files.old) (F.held files.new)) }
+    ensures ended { IsOk result → IfSaid HaveEnded (F.held files.old) (F.held files.new) }
     ensures named { IfOk result (λ staged. staged.name.items ≡ turn.now.source.name.now) }
     ensures read { IfOk result (λ staged. WasRead (source_view staged)) }
-    ensures stays { Keeps (F.held files.old) (F.held files.new) }
+    ensures adds { IfSaid (Adds (IsCopyOfPile turn.now.pile.now)) (F.held files.old) (F.held files.new) }
 {
     let copy = make_copy(alloc, turn, ahead, files)?;
     end_copy(turn.at, files)?;
@@ -64,7 +67,7 @@ fn make_copy<F: Files>(
     ensures written { IfOk result (λ copy.
         WritesCopy turn.now.pile.now (turn.now.at + 1) turn.now.source.path.now copy
         (F.held files.old) (F.held files.new)) }
-    ensures stays { Keeps (F.held files.old) (F.held files.new) }
+    ensures adds { IfSaid (Adds (IsCopyOfPile turn.now.pile.now)) (F.held files.old) (F.held files.new) }
 {
     match ahead {
         Ahead::File(file) => send_copy(alloc, turn, &file, files),
@@ -86,7 +89,7 @@ fn send_copy<F: Files>(
     ensures written { IfOk result (λ copy.
         WritesCopy turn.now.pile.now (turn.now.at + 1) turn.now.source.path.now copy
         (F.held files.old) (F.held files.new)) }
-    ensures stays { Keeps (F.held files.old) (F.held files.new) }
+    ensures adds { IfSaid (Adds (IsCopyOfPile turn.now.pile.now)) (F.held files.old) (F.held files.new) }
 {
     start_copy(alloc, turn, files)?;
     match ahead.copy_source_to(files) {
@@ -106,7 +109,7 @@ fn stream_copy<F: Files>(
     ensures written { IfOk result (λ copy.
         WritesCopy turn.now.pile.now (turn.now.at + 1) turn.now.source.path.now copy
         (F.held files.old) (F.held files.new)) }
-    ensures stays { Keeps (F.held files.old) (F.held files.new) }
+    ensures adds { IfSaid (Adds (IsCopyOfPile turn.now.pile.now)) (F.held files.old) (F.held files.new) }
 {
     let Ok(mut reader) = files.source(turn.source.path) else {
         return Err(StageRefusal::Absent(turn.at));
@@ -124,7 +127,7 @@ fn start_copy<F: Files>(alloc: Global, turn: &Turn<'_>, files: &mut F) -> Result
     ensures refusal { IfErr result (IsOfCopy turn.now.at) }
     ensures started { IsOk result → StartsCopy turn.now.pile.now (turn.now.at + 1)
         (F.held files.old) (F.held files.new) }
-    ensures stays { Keeps (F.held files.old) (F.held files.new) }
+    ensures adds { IfSaid (Adds (IsCopyOfPile turn.now.pile.now)) (F.held files.old) (F.held files.new) }
 {
     make_folder(alloc, turn, files)?;
     let path = copy_path(alloc, turn.pile, turn.at + 1)?;
@@ -155,7 +158,7 @@ fn make_folder<F: Files>(alloc: Global, turn: &Turn<'_>, files: &mut F) -> Resul
 fn end_copy<F: Files>(at: usize, files: &mut F) -> Result<(), StageRefusal>
     ensures refusal { IfErr result (IsOfCopy at) }
     ensures ended { IsOk result → F.held files.new ≡ option_map ended (F.held files.old) }
-    ensures stays { Keeps (F.held files.old) (F.held files.new) }
+    ensures adds { (pile : List ℕ) → IfSaid (Adds (IsCopyOfPile pile)) (F.held files.old) (F.held files.new) }
 {
     if files.finish().is_err() {
         return Err(StageRefusal::CopyUnsent(at));

@@ -1,11 +1,13 @@
 //! The list of a pile.
 
-ghost use Rattle.std.specs.Prelude.{◌≡◌, ◌≢◌, ◌<◌, ◌≤◌, ◌^◌, ℕ, ⊤, Err, IfErr, IfOk, IsOk, length, map, option_map};
+ghost use Rattle.std.specs.Prelude.{◌≡◌, ◌≢◌, ◌<◌, ◌≤◌, ◌^◌, ℕ, List, ⊤, Err, IfErr, IfOk, IsOk};
+ghost use Rattle.std.specs.Prelude.{length, map, option_map};
 ghost use Rattle.std.specs.List.{AllByRecursion};
 ghost use Rattle.dd_elem.specs.Device.{counted};
 ghost use Rattle.dd_files.specs.Files.{published};
-ghost use Rattle.dd_files.specs.Keeping.{IsFree, Keeps};
+ghost use Rattle.dd_files.specs.Keeping.{Adds, IfSaid, IsFree};
 ghost use Rattle.dd_pile.specs.Lists.{IfList};
+ghost use Rattle.dd_pile.specs.Paths.{IsListPath};
 ghost use Rattle.dd_pile.specs.Piles.{WritesList};
 ghost use Rattle.dd_pile.specs.Refusals.{IsOfList};
 ghost use Rattle.dd_staged.specs.Refusals.{IsBadStage, sources_view};
@@ -35,7 +37,7 @@ pub(crate) fn write_list<F: Files>(
         (F.held files.old) (F.held files.new) }
     ensures stage { let sources = map source_view list.now
         in IsOk result → AllByRecursion WasRead sources → IsStage (stage_text sources) sources }
-    ensures stays { Keeps (F.held files.old) (F.held files.new) }
+    ensures adds { IfSaid (Adds (IsListPath pile.now)) (F.held files.old) (F.held files.new) }
 {
     if stage_size(list).is_none() {
         return Err(StageRefusal::ListTooLarge);
@@ -54,7 +56,8 @@ fn make_list<F: Files>(path: &str, list: &[Staged], files: &mut F) -> Result<(),
         (F.held files.old) }
     ensures stage { let sources = map source_view list.now
         in IsOk result → AllByRecursion WasRead sources → IsStage (stage_text sources) sources }
-    ensures stays { Keeps (F.held files.old) (F.held files.new) }
+    ensures adds { (pile : List ℕ) → IsListPath pile path.now
+        → IfSaid (Adds (IsListPath pile)) (F.held files.old) (F.held files.new) }
 {
     match files.create(path) {
         Ok(()) => {}

@@ -1,8 +1,11 @@
 //! A pile made of sources.
 
-ghost use Rattle.std.specs.Prelude.{◌≡◌, ◌≢◌, Err, IfErr, IfOk, length, map};
+ghost use Rattle.std.specs.Prelude.{◌≡◌, ◌≢◌, Err, IfErr, IfOk, IsErr, IsOk, length, map, option_map};
 ghost use Rattle.std.specs.List.{AllByRecursion};
-ghost use Rattle.dd_files.specs.Keeping.{IfSaid, Keeps};
+ghost use Rattle.dd_files.specs.Files.{stored};
+ghost use Rattle.dd_files.specs.Keeping.{Adds, IfSaid};
+ghost use Rattle.dd_pile.specs.Last.{HaveEnded, MakesListLast};
+ghost use Rattle.dd_pile.specs.Paths.{IsCopyOfPile};
 ghost use Rattle.dd_pile.specs.Piles.{CopiesStand, HasNoRoom, IsRefusedInTurn, MakesPile};
 ghost use Rattle.dd_staged.specs.Refusals.{sources_view};
 ghost use Rattle.dd_staged.specs.Sources.{WasRead};
@@ -22,9 +25,9 @@ use std::alloc::Global;
 /// folder of the pile with its parents, where it is not there.
 ///
 /// A source of less than 8 MiB is read once, where memory allows. One without a version is copied and listed, too; of
-/// one with more than 4,294,967,295 bytes the copy has one byte more than these. All is stored before the list is made,
-/// and the list once it has ended. It ends with the first source that can't be opened, read or copied; what was made
-/// until then stays.
+/// one with more than 4,294,967,295 bytes the copy has one byte more than these. The list is created once every copy is
+/// stored, and is then stored, too: wherever the power is cut, there is no new list, or every copy is there, whole. It
+/// ends with the first source that can't be opened, read or copied; what was made until then stays.
 pub fn stage_sources<F: Files + Progress>(
     alloc: Global,
     pile: &str,
@@ -39,8 +42,8 @@ pub fn stage_sources<F: Files + Progress>(
     ensures made { IfOk result (λ sum. MakesPile pile.now sources.now sum
         (F.held files.old) (F.held files.new)) }
 
-    // What stood before is as it was, also after an Err.
-    ensures stays { Keeps (F.held files.old) (F.held files.new) }
+    // Also after an Err: what stood before is as it was, and the list is created once all copies are stored.
+    ensures last { IfSaid (MakesListLast pile.now) (F.held files.old) (F.held files.new) }
 {
     if files.folder(pile).is_err() {
         return Err(StageRefusal::PileUnmade);
@@ -69,7 +72,8 @@ fn copy_sources<F: Files + Progress>(
         IfSaid (CopiesStand pile.now sources.now (sources_view list))
         (F.held files.old) (F.held files.new)) }
     ensures read { IfOk result (λ list. AllByRecursion WasRead (sources_view list)) }
-    ensures stays { Keeps (F.held files.old) (F.held files.new) }
+    ensures adds { IfSaid (Adds (IsCopyOfPile pile.now)) (F.held files.old) (F.held files.new) }
+    ensures ended { IsOk result → IfSaid HaveEnded (F.held files.old) (F.held files.new) }
 {
     let mut list = Vec::new(alloc);
     let mut ahead = FilesAhead::new(alloc);
@@ -91,7 +95,8 @@ fn copy_sources<F: Files + Progress>(
 
 fn store<F: Files>(files: &mut F) -> Result<(), StageRefusal>
     ensures fault { IfErr result (λ refusal. refusal ≡ StageRefusal.Unstored) }
-    ensures kept { F.held files.new ≡ F.held files.old }
+    ensures kept { IsErr result → F.held files.new ≡ F.held files.old }
+    ensures stored { IsOk result → F.held files.new ≡ option_map stored (F.held files.old) }
 {
     match files.store() {
         Ok(()) => Ok(()),

@@ -1,7 +1,9 @@
 -- All bytes that were read ahead went to the copy, or a front of them.
+use Rattle.std.proofs.Common.{◌+◌}
+use Rattle.dd_files.proofs.KeptFiles.{said_grown}
+use Rattle.dd_pile.specs.Paths.{IsCopyOfPile}
 use Rattle.dd_pile.proofs.Answered.{copy_known, found_settled}
 use Rattle.dd_pile.proofs.Fronts.{ahead_front}
-use Rattle.dd_pile.proofs.Kept.{keeps_grown}
 use Rattle.dd_pile.proofs.copies.send_copy.Goals as goal
 
 pub returns-in-Ok-clause-written : goal.returns-in-Ok-clause-written
@@ -21,16 +23,18 @@ returns-in-Ok-clause-written g c =
           c.in-Ok.copy.found c.requires.known sent.0 sent.1.1.0;
     }
 
-pub returns-in-Ok-clause-stays : goal.returns-in-Ok-clause-stays
-returns-in-Ok-clause-stays g c =
+pub returns-in-Ok-clause-adds : goal.returns-in-Ok-clause-adds
+returns-in-Ok-clause-adds g c =
     let start = c.in_ok-start_copy.ensures.started cc in
     let went = c.in-Ok.ensures.1.1.1 in
-    keeps_grown start.path c.args.ahead.now.bytes _ _ _ start.free start.started
+    said_grown (IsCopyOfPile c.args.turn.now.pile.now) start.path c.args.ahead.now.bytes _ _ _
+    (c.args.turn.now.at + 1, start.place) start.free start.started
     (g.met.F.Files.written_grows _ _ c.args.ahead.now.bytes went.stays went.holds)
 
-pub returns-in-Err-clause-stays : goal.returns-in-Err-clause-stays
-returns-in-Err-clause-stays g c =
+pub returns-in-Err-clause-adds : goal.returns-in-Err-clause-adds
+returns-in-Err-clause-adds g c =
     let start = c.in_ok-start_copy.ensures.started cc in
     let front = ahead_front g.F.Write _ _ c.in-Err.fault c.args.ahead.now c.in-Err.ensures in
-    keeps_grown start.path front.bytes _ _ _ start.free start.started
+    said_grown (IsCopyOfPile c.args.turn.now.pile.now) start.path front.bytes _ _ _
+    (c.args.turn.now.at + 1, start.place) start.free start.started
     (g.met.F.Files.written_grows _ _ front.bytes front.stays front.holds)

@@ -1,7 +1,9 @@
 -- All that the reader gave went to the copy, or a front of it.
+use Rattle.std.proofs.Common.{◌+◌}
+use Rattle.dd_files.proofs.KeptFiles.{said_grown}
+use Rattle.dd_pile.specs.Paths.{IsCopyOfPile}
 use Rattle.dd_pile.proofs.Answered.{copy_given, size_given}
 use Rattle.dd_pile.proofs.Fronts.{source_front}
-use Rattle.dd_pile.proofs.Kept.{keeps_grown}
 use Rattle.dd_pile.proofs.copies.stream_copy.Goals as goal
 
 pub returns-in-Ok-copy_source-clause-written : goal.returns-in-Ok-copy_source-clause-written
@@ -23,20 +25,22 @@ returns-in-Ok-copy_source-clause-written g c =
           c.in-Ok-copy_source.copy.found c.in-Ok.ensures.opened.left h.known read settled;
     }
 
-pub returns-in-Ok-copy_source-clause-stays : goal.returns-in-Ok-copy_source-clause-stays
-returns-in-Ok-copy_source-clause-stays g c =
+pub returns-in-Ok-copy_source-clause-adds : goal.returns-in-Ok-copy_source-clause-adds
+returns-in-Ok-copy_source-clause-adds g c =
     let start = c.in_ok-start_copy.ensures.started cc in
     let h = c.in-Ok-copy_source.ensures in
     let went = h.answered.1.1.1 in
-    keeps_grown start.path h.given _ _ _ (rw c.in-Ok.ensures.kept at start.free)
+    said_grown (IsCopyOfPile c.args.turn.now.pile.now) start.path h.given _ _ _
+    (c.args.turn.now.at + 1, start.place) (rw c.in-Ok.ensures.kept at start.free)
     (rw c.in-Ok.ensures.kept at start.started)
     (g.met.F.Files.written_grows _ _ h.given went.stays went.holds)
 
-pub returns-clause-stays : goal.returns-clause-stays
-returns-clause-stays g c =
+pub returns-clause-adds : goal.returns-clause-adds
+returns-clause-adds g c =
     let start = c.in_ok-start_copy.ensures.started cc in
     let h = c.in-Err.ensures in
     let front = source_front g.F.Write _ _ c.in-Err.fault _ h.given _ _ _ h.answered in
-    keeps_grown start.path front.bytes _ _ _ (rw c.in-Ok.ensures.kept at start.free)
+    said_grown (IsCopyOfPile c.args.turn.now.pile.now) start.path front.bytes _ _ _
+    (c.args.turn.now.at + 1, start.place) (rw c.in-Ok.ensures.kept at start.free)
     (rw c.in-Ok.ensures.kept at start.started)
     (g.met.F.Files.written_grows _ _ front.bytes front.stays front.holds)

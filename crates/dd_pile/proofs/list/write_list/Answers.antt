@@ -10,3 +10,9 @@ returns-clause-written g c = λ done. record {
   free = c.make_list.ensures.free done;
   made = c.make_list.ensures.written done;
 }
+
+pub returns-clause-adds : goal.returns-clause-adds
+returns-clause-adds g c =
+    let is = c.in_ok-path.ensures in
+    c.make_list.ensures.adds c.args.pile.now
+    (rw c.as_str.ensures.value (record { bare = is.bare; ended = is.ended; apart = is.apart }))

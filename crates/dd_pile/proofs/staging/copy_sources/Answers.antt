@@ -1,14 +1,27 @@
 -- One more source is staged.
-use Rattle.std.proofs.Common.{◌∙◌, map}
+use Rattle.std.proofs.Common.{◌∙◌, map, rules}
 use Rattle.std.proofs.lemmas.List.{length-map}
 use Rattle.dd_staged.specs.Sources.{source_view}
 use Rattle.dd_pile.specs.Piles.{StandsBefore}
 use Rattle.std.proofs.lemmas.Result.{err_from_is_err_and}
-use Rattle.dd_pile.proofs.Kept.{keeps_then}
+use Rattle.dd_files.proofs.KeptFiles.{said_then}
+use Rattle.dd_pile.proofs.Kept.{said_keeps}
+use Rattle.dd_pile.proofs.ListLast.{said_adds, said_ended_all, said_whole, said_whole_none, said_whole_then}
+use Rattle.dd_pile.specs.Paths.{IsCopyOfPile}
 use Rattle.dd_pile.proofs.KnownAhead.{next_known, passed_known, rest_known}
 use Rattle.dd_pile.proofs.Refused.{named, not_large}
-use Rattle.dd_pile.proofs.StagedCopies.{copies_keep, each_since, names_more, pushed_more, read_more, stand_more}
+use Rattle.dd_pile.proofs.StagedCopies.{each_since, names_more, pushed_more, read_more, stand_more}
 use Rattle.dd_pile.proofs.staging.copy_sources.Goals as goal
+
+pub loop-at-init : goal.loop-at-init
+loop-at-init g c = record {
+  count = search rules;
+  stand = search rules;
+  whole = said_whole_none (IsCopyOfPile c.args.pile.now) _ _ c.begin_step.ensures.kept;
+  names = search rules;
+  read = search rules;
+  known = search rules;
+}
 
 pub stage_source-requires-clause-known : goal.stage_source-requires-clause-known
 stage_source-requires-clause-known g c =
@@ -29,7 +42,7 @@ returns-in_err-staged-clause-refusal g c =
       list = list;
       count = length-map c.loop-at.list.items source_view ∙ before.count;
       stand = each_since c.args.pile.now c.args.sources.now list _ _ _ before.stand
-          (rw c.read_ahead.ensures.kept at c.stage_source.ensures.stays);
+          (said_keeps (IsCopyOfPile c.args.pile.now) _ _ (rw c.read_ahead.ensures.kept at c.stage_source.ensures.adds));
     }) c.in_err-staged.ensures.refusal)
 
 pub returns-in_err-staged-clause-small : goal.returns-in_err-staged-clause-small
@@ -37,15 +50,17 @@ returns-in_err-staged-clause-small g c =
     let p = err_from_is_err_and c.from_residual.result c.from_residual.ensures.1 in
     not_large c.from_residual.result c.loop-at.at p.0 p.1 (rw p.2 c.in_err-staged.ensures.refusal)
 
-pub returns-in_err-staged-clause-stays : goal.returns-in_err-staged-clause-stays
-returns-in_err-staged-clause-stays g c =
-    keeps_then _ _ _ (copies_keep _ _ _ _ _ c.loop-at.invariant.stand)
-    (rw c.read_ahead.ensures.kept at c.stage_source.ensures.stays)
+pub returns-in_err-staged-clause-adds : goal.returns-in_err-staged-clause-adds
+returns-in_err-staged-clause-adds g c =
+    said_then (IsCopyOfPile c.args.pile.now) _ _ _
+    (said_adds (IsCopyOfPile c.args.pile.now) _ _ c.loop-at.invariant.whole)
+    (rw c.read_ahead.ensures.kept at c.stage_source.ensures.adds)
 
-pub returns-in_err-push-clause-stays : goal.returns-in_err-push-clause-stays
-returns-in_err-push-clause-stays g c =
-    keeps_then _ _ _ (copies_keep _ _ _ _ _ c.loop-at.invariant.stand)
-    (rw c.read_ahead.ensures.kept at c.stage_source.ensures.stays)
+pub returns-in_err-push-clause-adds : goal.returns-in_err-push-clause-adds
+returns-in_err-push-clause-adds g c =
+    said_then (IsCopyOfPile c.args.pile.now) _ _ _
+    (said_adds (IsCopyOfPile c.args.pile.now) _ _ c.loop-at.invariant.whole)
+    (rw c.read_ahead.ensures.kept at c.stage_source.ensures.adds)
 
 pub loop-at-preserved : goal.loop-at-preserved
 loop-at-preserved g c =
@@ -59,14 +74,21 @@ loop-at-preserved g c =
           (stand_more c.args.pile.now c.args.sources.now list c.push.new.self.items staged c.loop-at.at _ _ _ _ items
           before.count c.loop-at-test.true before.stand
           (rw c.read_ahead.ensures.kept at c.in_ok-staged.ensures.staged));
+      whole = rw c.advance.ensures.kept
+          (said_whole_then (IsCopyOfPile c.args.pile.now) _ _ _ before.whole
+          (said_whole (IsCopyOfPile c.args.pile.now) _ _ (rw c.read_ahead.ensures.kept at c.stage_source.ensures.adds)
+          (rw c.read_ahead.ensures.kept at c.in_ok-staged.ensures.ended cc)));
       names = names_more c.args.sources.now list c.push.new.self.items staged c.loop-at.at _ items c.loop-at-test.true
           before.names c.in_ok-staged.ensures.named;
       read = read_more list c.push.new.self.items staged items before.read c.in_ok-staged.ensures.read;
       known = rw c.advance.ensures.kept
           (passed_known c.args.sources.now c.loop-at.at c.read_ahead.new.ahead c.pass.new.self _ _ c.pass.ensures
-          c.stage_source.ensures.stays
+          (said_keeps (IsCopyOfPile c.args.pile.now) _ _ c.stage_source.ensures.adds)
           (rest_known c.args.sources.now c.loop-at.at c.read_ahead.new.ahead _ c.read_ahead.ensures.known));
     }
 
-pub returns-clause-stays : goal.returns-clause-stays
-returns-clause-stays g c = copies_keep _ _ _ _ _ c.loop-at.invariant.stand
+pub returns-clause-adds : goal.returns-clause-adds
+returns-clause-adds g c = said_adds (IsCopyOfPile c.args.pile.now) _ _ c.loop-at.invariant.whole
+
+pub returns-clause-ended : goal.returns-clause-ended
+returns-clause-ended g c = λ done. said_ended_all (IsCopyOfPile c.args.pile.now) _ _ c.loop-at.invariant.whole

@@ -3,7 +3,9 @@ use Rattle.std.proofs.Common.{◌≡◌, drop, length, map, take}
 use Rattle.std.specs.List.{AllByRecursion}
 use Rattle.dd_staged.specs.Refusals.{sources_view}
 use Rattle.dd_staged.specs.Sources.{WasRead}
+use Rattle.dd_files.proofs.AddedWhole.{AddsWhole}
 use Rattle.dd_files.specs.Keeping.{IfSaid}
+use Rattle.dd_pile.specs.Paths.{IsCopyOfPile}
 use Rattle.dd_pile.specs.Piles.{CopiesStand}
 use Rattle.dd_pile.specs.ReadingAhead.{KnowsNext}
 use Rattle.dd_pile.proofs.staging.copy_sources.Given as goal
@@ -13,6 +15,7 @@ invariant-loop-at g l = record {
   count : length l.list.items ≡ l.at;
   stand : IfSaid (CopiesStand l.pile l.sources (sources_view l.list)) (g.F.Files.held l.fn.files)
       (g.F.Files.held l.files);
+  whole : IfSaid (AddsWhole (IsCopyOfPile l.pile)) (g.F.Files.held l.fn.files) (g.F.Files.held l.files);
   names : map (λ listed. listed.name) (sources_view l.list) ≡ map (λ source. source.name.now) (take l.at l.sources);
   read : AllByRecursion WasRead (sources_view l.list);
   known : KnowsNext (drop l.at l.sources) l.ahead (g.F.Files.held l.files);
