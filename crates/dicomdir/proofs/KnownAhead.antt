@@ -1,15 +1,15 @@
 -- What is known of the files of picks before their turn.
-use Rattle.std.proofs.Common.{◌≡◌, ◌∙◌, ◌<◌, ◌≤◌, ◌+◌, ◌-◌, ℕ, zero, suc, Bool, true, false, List, [], ◌∷◌, ◌++◌}
+use Rattle.std.proofs.Common.{◌≡◌, ◌∙◌, ◌≤◌, ◌+◌, ◌-◌, ℕ, zero, suc, Bool, true, false, List, [], ◌∷◌, ◌++◌}
 use Rattle.std.proofs.Common.{Option, None, Some, ap, arith, drop, get_or, inl, inr, length, min, refl, subst, sym, take}
 use Rattle.std.proofs.Common.{if◌then◌else◌}
 use Rattle.std.proofs.KnownBytes.{Consumes-whole}
 use Rattle.std.proofs.lemmas.List.{take_all}
 use Rattle.std.specs.Io.KnownBytes.{Consumes, IsAtEnd}
-use Rattle.std.specs.Prelude.{IfSome, IsSome, option_map, slice_get}
+use Rattle.std.specs.Prelude.{IfSome, IsSome, slice_get}
 use Rattle.dd_elem.specs.FileId.{Ranks}
 use Rattle.dd_files.proofs.FileLaws.{file_there}
 use Rattle.dd_files.specs.Files.{Held, linked, published, with_file}
-use Rattle.dd_files.specs.Keeping.{IsFree, Keeps}
+use Rattle.dd_files.specs.Keeping.{Keeps}
 use Rattle.dd_filing.specs.Ahead.{IsReadAhead, NextFiles, first_left, shown, with_file as with_next}
 use Rattle.dd_filing.specs.Taken.{Taken}
 use Rattle.dd_filing.specs.declared.places.Ahead.{Ahead}

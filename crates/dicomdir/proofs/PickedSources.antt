@@ -1,13 +1,13 @@
 -- The sources that images are made of have versions, so that their names are paths.
-use Rattle.std.proofs.Common.{◌≡◌, ◌∙◌, ◌+◌, ◌<◌, ℕ, zero, suc, List, [], ◌∷◌, Bool, Option, None, Some, Ok, Err}
-use Rattle.std.proofs.Common.{ap, arith, false, get_or, length, map, refl, subst, sym, true}
+use Rattle.std.proofs.Common.{◌≡◌, ◌∙◌, ◌+◌, ◌<◌, ℕ, suc, List, [], ◌∷◌, Bool, Option, None, Some, Ok, Err}
+use Rattle.std.proofs.Common.{arith, false, get_or, length, map, refl, subst, sym, true}
 use Rattle.std.proofs.lemmas.List.Elements.{All-cons, All-contains, All-weaker}
 use Rattle.std.proofs.lemmas.Option.{slice_get_within}
 use Rattle.std.proofs.lemmas.Str.{IsUtf8-from_is_utf8, is_utf8-from_IsUtf8}
-use Rattle.std.specs.Prelude.{All, Contains, IfSome, filter, if◌then◌else◌, slice_get}
+use Rattle.std.specs.Prelude.{All, IfSome, filter, if◌then◌else◌, slice_get}
 use Rattle.std.specs.Str.{IsUtf8, is_utf8}
 use Rattle.dd_catalogue.specs.Rising.{by_test}
-use Rattle.dd_engine.specs.Indexing.{Answer, accepted, accepted_from}
+use Rattle.dd_engine.specs.Indexing.{accepted, accepted_from}
 use Rattle.dd_engine.specs.PastFailures.{Reading, answers_of}
 use Rattle.dd_engine.specs.Picking.{ArePicked, FileKey, file_of, files_of, found, found_by, is_image, is_one}
 use Rattle.dd_files.specs.Files.{Held}

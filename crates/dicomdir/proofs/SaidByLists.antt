@@ -7,12 +7,12 @@ use Rattle.clap.specs.Words.{Text}
 use Rattle.dd_catalogue.proofs.Members.{Member, contained, member_of}
 use Rattle.dd_engine.specs.Indexing.{Answer, accepted, accepted_from, versions_of}
 use Rattle.dd_files.specs.Files.{Held}
+use Rattle.dd_pile.proofs.OnePaths.{one_path}
 use Rattle.dd_pile.specs.Lists.{HasList}
 use Rattle.dd_staged.specs.Sources.{Source}
 use Rattle.dd_staged.specs.Stages.{IsStage}
 use Rattle.dd_staged.proofs.Valid as stages
 use Rattle.dd_version.specs.declared.parts.Parts.{Parts}
-use Rattle.dicomdir.proofs.OnePaths.{one_path}
 use Rattle.dicomdir.proofs.SaidBySets.{at_end, in_either, in_front}
 use Rattle.dicomdir.specs.Headline.{OneListSays}
 use Rattle.dicomdir.specs.Publishes.{AreLists, answers_in, sources_in}

@@ -7,7 +7,7 @@ use Rattle.dd_files.specs.Files.{Held}
 use Rattle.dd_version.specs.declared.parts.Parts.{Parts}
 use Rattle.dd_layout.specs.declared.record.PlanRecord.{PlanRecord}
 use Rattle.dd_layout.specs.Layouts.{Layout}
-use Rattle.dicomdir.specs.Made.{HasAtOne, MakesFileSet, MakesImage, MakesRow, MakesRows}
+use Rattle.dicomdir.specs.Made.{MakesFileSet, MakesImage, MakesRow, MakesRows}
 
 -- ---- one image
 
@@ -32,6 +32,7 @@ module _ (From To MayLink MayLinkTo : List ℕ → Type 0) (same : SaysToo From 
   image_by folder file planned old new (inl copied) = inl (record {
     path = copied.path;
     bytes = copied.bytes;
+    ranks = copied.ranks;
     place = copied.place;
     free = copied.free;
     of = record {
@@ -45,6 +46,7 @@ module _ (From To MayLink MayLinkTo : List ℕ → Type 0) (same : SaysToo From 
   image_by folder file planned old new (inr linked) = inr (record {
     path = linked.path;
     from = linked.from;
+    ranks = linked.ranks;
     place = linked.place;
     picked = same.stands linked.from linked.picked;
     there = bytes_by MayLink MayLinkTo linked.from old same.links linked.there;

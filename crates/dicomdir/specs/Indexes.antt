@@ -13,12 +13,13 @@ use Rattle.dd_engine.specs.Indexing.{Answer}
 use Rattle.dd_engine.specs.PastFailures.{IsOfOne, Reading, answers_of}
 use Rattle.dd_engine.specs.Supply.{AnswersSource, IsOfSource}
 use Rattle.dd_files.specs.Files.{Held}
+use Rattle.dd_files.specs.Keeping.{IfSaid}
 use Rattle.dd_keys.specs.declared.fault.KeyFault.{KeyFault}
 use Rattle.dd_keys.specs.declared.fault.KeyFault.TheVariants.{Read}
 use Rattle.dd_layout.specs.Limits.{Limits}
 use Rattle.dicomdir.specs.FileSupply.{contents_at}
 use Rattle.dicomdir.specs.Made.{IsPathAt}
-use Rattle.dicomdir.specs.Standing.{IfSaid, StandsWhole}
+use Rattle.dicomdir.specs.Standing.{StandsWhole}
 
 -- the most bytes of a source
 abbrev pub most_of_source : ℕ

@@ -8,6 +8,8 @@ pub mod Headline
 pub mod Indexes
 pub mod Inspecting
 pub mod Lines
+pub mod Last
+pub mod Left
 pub mod ListedNames
 pub mod Made
 pub mod MaskedWords

@@ -8,10 +8,11 @@ use Rattle.dd_catalogue.specs.Versions.{IsCatalogue}
 use Rattle.dd_dir.specs.Directories.{directory_of}
 use Rattle.dd_dir.specs.SaysItself.{SaysItself}
 use Rattle.dd_dir.specs.Visits.{Realises}
-use Rattle.dd_elem.specs.FileId.{Ranks, text_of}
+use Rattle.dd_elem.specs.FileId.{AreRanks, Ranks, text_of}
 use Rattle.dd_elem.specs.Ordered.{bytes_cmp}
 use Rattle.dd_engine.specs.declared.merge.Pick.{Pick}
-use Rattle.dd_files.specs.Files.{Held, linked, published, started}
+use Rattle.dd_files.specs.Files.{Held, linked, published, started, stored}
+use Rattle.dd_files.specs.Keeping.{IsFree}
 use Rattle.dd_files.specs.Paths.{IsPathIn, id_path}
 use Rattle.dd_filing.specs.declared.agreeing.Filed.TheVariants.{AsPlanned}
 use Rattle.dd_filing.specs.Filing.{IsFileAs}
@@ -27,13 +28,16 @@ use Rattle.dicomdir.specs.declared.origins.Lookup.TheVariants.{Stored}
 abbrev pub IsPlace : List ℕ → Ranks → List ℕ → Type 0
 IsPlace folder file path = All (λ byte. byte < 128) (text_of file) → IsPathIn folder (id_path (text_of file)) path
 
--- no file stands there
-abbrev pub IsFree : List ℕ → Option Held → Type 0
-IsFree path files = IfSome files (λ held. held.bytes_at path ≡ None)
+-- the path of an image in the folder
+pub record IsImagePath (folder path : List ℕ) : Type 0 where
+  pub file : Ranks
+  pub ranks : AreRanks file
+  pub place : IsPlace folder file path
 
 -- a new file is being written there, where none stood
 pub record StartsImage (folder : List ℕ) (file : Ranks) (old new : Option Held) : Type 0 where
   pub path : List ℕ
+  pub ranks : AreRanks file
   pub place : IsPlace folder file path
   pub free : IsFree path old
   pub started : new ≡ option_map (started path) old
@@ -50,6 +54,7 @@ pub record CopiesImage (From : List ℕ → Type 0) (folder : List ℕ) (file : 
     (old new : Option Held) : Type 0 where
   pub path : List ℕ
   pub bytes : List ℕ
+  pub ranks : AreRanks file
   pub place : IsPlace folder file path
   pub free : IsFree path old
   pub of : HasAtOne From bytes old
@@ -67,6 +72,7 @@ pub record LinksImage (From MayLink : List ℕ → Type 0) (folder : List ℕ) (
     : Type 0 where
   pub path : List ℕ
   pub from : List ℕ
+  pub ranks : AreRanks file
   pub place : IsPlace folder file path
   pub picked : From from
   pub there : IfSome old (λ held. IsSomeAnd (held.bytes_at from) MayLink)
@@ -137,8 +143,8 @@ SaysPlan plan = (m : List Parts) → IsCatalogue m → plan.versions ≡ harmoni
     → IsRising (λ uid. uid) bytes_cmp plan.withdrawn
     → SaysItself m plan.withdrawn (directory_of plan.label plan.versions plan.withdrawn)
 
--- the images of the records of the plan were made in the folder, one for each pick, and then its directory (PS3.10
--- section 8.6)
+-- The images of the records of the plan were made in the folder, one for each pick, and then its directory (PS3.10
+-- section 8.6). All was stored before the directory was made, and once it had ended.
 pub record MakesFileSet {P : Type 0} (From MayLink : P → List ℕ → Type 0) (folder : List ℕ) (plan : Layout)
     (picks : List P) (old new : Option Held) : Type 0 where
   pub copied : Option Held
@@ -146,7 +152,8 @@ pub record MakesFileSet {P : Type 0} (From MayLink : P → List ℕ → Type 0) 
   pub path : List ℕ
   pub place : IsPathIn folder (codes "DICOMDIR") path
   pub free : IsFree path copied
-  pub directory : new ≡ option_map (published path (directory_of plan.label plan.versions plan.withdrawn)) copied
+  pub directory : new ≡ option_map
+      (λ held. stored (published path (directory_of plan.label plan.versions plan.withdrawn) (stored held))) copied
   pub visited : RealisesPlan plan
   pub again : SaysPlan plan
 

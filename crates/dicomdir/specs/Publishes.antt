@@ -13,6 +13,7 @@ use Rattle.dd_engine.specs.Indexed.{IsIndexed}
 use Rattle.dd_engine.specs.IndexNotes.{NotesIndex}
 use Rattle.dd_engine.specs.Indexing.{Answer}
 use Rattle.dd_files.specs.Files.{Held}
+use Rattle.dd_files.specs.Keeping.{IfSaid}
 use Rattle.dd_json.specs.declared.value.Style.{Style}
 use Rattle.dd_layout.specs.Layouts.{Layout}
 use Rattle.dd_line.specs.Line.{words_of}
@@ -26,7 +27,7 @@ use Rattle.dicomdir.specs.Indexes.{limits_of}
 use Rattle.dicomdir.specs.Noted.{IsNotedIndex}
 use Rattle.dicomdir.specs.Prints.{size_of}
 use Rattle.dicomdir.specs.Said.{SaysNotes}
-use Rattle.dicomdir.specs.Standing.{IfSaid, StandsWhole}
+use Rattle.dicomdir.specs.Standing.{StandsWhole}
 use Rattle.dicomdir.specs.declared.making.Ending.TheVariants.{Done}
 use Rattle.dicomdir.specs.declared.piles.Place.{Place}
 use Rattle.dicomdir.specs.declared.piles.Piled.{Piled}

@@ -1,10 +1,12 @@
 -- What the files hold once a file-set was made: its images, its directory, and what stood there before.
-use Rattle.std.specs.Prelude.{◌≡◌, ◌≢◌, ◌⊎◌, ℕ, List, [], ◌∷◌, filter, zip, Option, None, Some, is_some, codes}
+use Rattle.std.specs.Prelude.{◌≡◌, ◌≢◌, ◌⊎◌, ℕ, List, [], ◌∷◌, filter, zip, None, Some, is_some, codes}
 use Rattle.std.specs.Prelude.{slice_get}
 use Rattle.dd_dir.specs.Directories.{directory_of}
 use Rattle.dd_elem.specs.FileId.{Ranks}
 use Rattle.dd_files.specs.Files.{Held}
+use Rattle.dd_files.specs.Keeping.{KeepsAll}
 use Rattle.dd_files.specs.Paths.{IsPathIn}
+use Rattle.dd_files.specs.PowerCuts.{IsAllStored}
 use Rattle.dd_filing.specs.declared.agreeing.Filed.TheVariants.{AsPlanned}
 use Rattle.dd_filing.specs.Filing.{IsFileAs}
 use Rattle.dd_version.specs.declared.parts.Parts.{Parts}
@@ -12,16 +14,6 @@ use Rattle.dd_layout.specs.declared.record.PlanRecord.{PlanRecord}
 use Rattle.dd_layout.specs.Layouts.{Layout}
 use Rattle.dd_layout.specs.Plans.{records_of}
 use Rattle.dicomdir.specs.Made.{HasAtOne, IsPlace, RealisesPlan, SaysPlan}
-
--- this is so of what the files held and of what they hold, where they say it
-abbrev pub IfSaid : (Held → Held → Type 0) → Option Held → Option Held → Type 0
-IfSaid Holds None new = Unit {0}
-IfSaid Holds (Some old) None = ⊥
-IfSaid Holds (Some old) (Some new) = Holds old new
-
--- each file that stood before has the bytes that it had
-pub record KeepsAll (old new : Held) : Type 0 where
-  pub stays : (path bytes : List ℕ) → old.bytes_at path ≡ Some bytes → new.bytes_at path ≡ Some bytes
 
 -- The image of this record stands at its File ID in the folder, where no file stood. It has the bytes of a file at one of
 -- these paths. They are a file of the version that is planned there, or such as a hard link may have.
@@ -63,7 +55,7 @@ abbrev pub picked_rows : {P : Type 0} → Layout → List P → List (PlanRecord
 picked_rows plan picks = zip (filter (λ row. is_some row.file) (records_of plan.label plan.versions)) picks
 
 -- The file-set of this plan stands in the folder: all its images and its directory (PS3.10 section 8.6). What stood
--- before is as it was, and nothing else was made.
+-- before is as it was, nothing else was made, and all is stored.
 pub record StandsWhole {P : Type 0} (From MayLink : P → List ℕ → Type 0) (folder : List ℕ) (plan : Layout)
     (picks : List P) (old new : Held) : Type 0 where
   pub stays : KeepsAll old new
@@ -76,3 +68,4 @@ pub record StandsWhole {P : Type 0} (From MayLink : P → List ℕ → Type 0) (
   pub again : SaysPlan plan
   pub others : (other : List ℕ) → path ≢ other → ¬ IsOfOne folder (picked_rows plan picks) other
       → new.bytes_at other ≡ old.bytes_at other
+  pub stored : IsAllStored old new

@@ -1,9 +1,10 @@
 //! The images of a file-set, in its folder: copies of files, or hard links to them.
 ghost use Rattle.std.specs.Prelude.{◌≡◌, ◌<◌, ℕ, All, IfErr, IfOk, IsOk, length, option_map};
 ghost use Rattle.dd_files.specs.Files.{ended};
+ghost use Rattle.dd_files.specs.Keeping.{Adds, IfSaid};
 ghost use Rattle.dd_filing.specs.declared.places.Ahead.TheVariants as known;
 ghost use Rattle.dd_layout.specs.Plans.{records_of};
-ghost use Rattle.dicomdir.specs.Made.{Copies, CopiesImage, MakesImage, MakesImages, StartsImage};
+ghost use Rattle.dicomdir.specs.Made.{Copies, CopiesImage, IsImagePath, MakesImage, MakesImages, StartsImage};
 ghost use Rattle.dicomdir.specs.Claims.{IsRefusedAs};
 ghost use Rattle.dicomdir.specs.ReadingAhead.{IsKnown, KnowsNext, ReadsNext};
 ghost use Rattle.dicomdir.specs.Refusal.{IsAmong, IsMemory, IsOfWork};
@@ -28,6 +29,7 @@ struct Left<'a, O: Origins> {
 
 /// Makes each image at its File ID in the folder, in the order of the plan: a copy of its file, or a hard link to it.
 /// Each copy must be a file of the version that is planned there.
+#[tactic(auto, using(dd_files::proofs::KeptFiles::said_is))]
 pub(crate) fn copy_images<F: Files + Progress, O: Origins>(
     alloc: Global,
     set: &FileSet<'_, O>,
@@ -42,6 +44,8 @@ pub(crate) fn copy_images<F: Files + Progress, O: Origins>(
         (O.stands_at set.now.origins.now) (O.may_link set.now.origins.now)
         set.now.folder.now set.now.plan.now.versions
         (records_of set.now.plan.now.label set.now.plan.now.versions) set.now.picks.now
+        (F.held files.old) (F.held files.new) }
+    ensures adds { IfSaid (Adds (IsImagePath set.now.folder.now))
         (F.held files.old) (F.held files.new) }
 {
     let mut left = Left {
@@ -75,6 +79,8 @@ fn copy_record<F: Files + Progress, O: Origins>(
         (F.held files.old) (F.held files.new) }
     ensures known { IsOk result → KnowsNext (O.stands_at set.now.origins.now) left.new.picks.now
         left.new.ahead (F.held files.new) }
+    ensures adds { IfSaid (Adds (IsImagePath set.now.folder.now))
+        (F.held files.old) (F.held files.new) }
 {
     match (row.file, left.picks) {
         (Some(file), [pick, later @ ..]) => {
@@ -160,6 +166,8 @@ fn make_image<F: Files + Progress, O: Origins>(
         (O.may_link image.now.origins.now image.now.pick)
         image.now.folder.now image.now.file image.now.planned.now
         (F.held files.old) (F.held files.new) }
+    ensures adds { IfSaid (Adds (IsImagePath image.now.folder.now))
+        (F.held files.old) (F.held files.new) }
 {
     if link_image(alloc, image, files)? {
         return Ok(());
@@ -180,6 +188,8 @@ fn copy_image<F: Files + Progress, O: Origins>(
     ensures made { IsOk result
         → CopiesImage (O.stands_at image.now.origins.now image.now.pick)
         image.now.folder.now image.now.file image.now.planned.now
+        (F.held files.old) (F.held files.new) }
+    ensures adds { IfSaid (Adds (IsImagePath image.now.folder.now))
         (F.held files.old) (F.held files.new) }
 {
     match ahead {
@@ -206,6 +216,8 @@ fn copy_ahead<F: Files + Progress, O: Origins>(
         → CopiesImage (O.stands_at image.now.origins.now image.now.pick)
         image.now.folder.now image.now.file image.now.planned.now
         (F.held files.old) (F.held files.new) }
+    ensures adds { IfSaid (Adds (IsImagePath image.now.folder.now))
+        (F.held files.old) (F.held files.new) }
 {
     start_copy(alloc, image.folder, image.file, files)?;
     match ahead.copy_to(files, image.planned) {
@@ -214,6 +226,7 @@ fn copy_ahead<F: Files + Progress, O: Origins>(
     }
 }
 
+#[tactic(auto, using(dd_files::proofs::KeptFiles::said_is))]
 fn copy_streamed<F: Files + Progress, O: Origins>(
     alloc: Global,
     image: &Image<'_, O>,
@@ -224,6 +237,8 @@ fn copy_streamed<F: Files + Progress, O: Origins>(
     ensures made { IsOk result
         → CopiesImage (O.stands_at image.now.origins.now image.now.pick)
         image.now.folder.now image.now.file image.now.planned.now
+        (F.held files.old) (F.held files.new) }
+    ensures adds { IfSaid (Adds (IsImagePath image.now.folder.now))
         (F.held files.old) (F.held files.new) }
 {
     let mut reader = open(alloc, image.origins, image.pick, files)?;
@@ -243,6 +258,8 @@ fn start_copy<F: Files>(
     ensures refusal { (paths : ℕ) → IfErr result (IsOfWork paths) }
     ensures started { IsOk result
         → StartsImage folder.now file (F.held files.old) (F.held files.new) }
+    ensures adds { IfSaid (Adds (IsImagePath folder.now))
+        (F.held files.old) (F.held files.new) }
 {
     make_folder(alloc, folder, file, files)?;
     let path = file_path(alloc, folder, &file.text())?;
@@ -253,6 +270,7 @@ fn start_copy<F: Files>(
 }
 
 /// Ends the copy of an image, which must be a file of its planned version, and has it stored with others.
+#[tactic(auto, using(dd_files::proofs::KeptFiles::said_ended, dd_files::proofs::KeptFiles::said_is))]
 fn end_copy<F: Files + Progress, O: Origins>(
     alloc: Global,
     image: &Image<'_, O>,
@@ -263,6 +281,8 @@ fn end_copy<F: Files + Progress, O: Origins>(
     ensures refusal { IfErr result (IsOfWork (O.paths image.now.origins.now)) }
     ensures planned { IsOk result → filed ≡ Filed.AsPlanned }
     ensures ended { IsOk result → F.held files.new ≡ option_map ended (F.held files.old) }
+    ensures adds { IfSaid (Adds (IsImagePath image.now.folder.now))
+        (F.held files.old) (F.held files.new) }
 {
     if files.finish().is_err() {
         return Err(Refusal::of(Subject::Image(image.file), ProgramFault::Unsent));

@@ -1,8 +1,10 @@
-ghost use Rattle.std.specs.Prelude.{◌≡◌, ℕ, All, IfErr, IsErr, IsOk, option_map};
+ghost use Rattle.std.specs.Prelude.{◌≡◌, ◌++◌, ℕ, All, List, IfErr, IsErr, IsOk, option_map};
 ghost use Rattle.dd_dir.specs.Directories.{directory_of};
 ghost use Rattle.dd_elem.specs.Device.{counted, HasFailed};
-ghost use Rattle.dd_files.specs.Files.{ended, grown, published, started};
-ghost use Rattle.dicomdir.specs.Made.{IsFree, MakesFileSet, RealisesPlan, SaysPlan};
+ghost use Rattle.dd_files.specs.Files.{ended, grown, published, started, stored};
+ghost use Rattle.dd_files.specs.Keeping.{Adds, IfSaid, IsFree};
+ghost use Rattle.dicomdir.specs.Left.{IsPartWritten, MakesDirectoryLast};
+ghost use Rattle.dicomdir.specs.Made.{MakesFileSet, RealisesPlan, SaysPlan};
 ghost use Rattle.dicomdir.specs.Refusal.{IsBadLine, IsOfWork};
 
 use crate::copies::copy_images;
@@ -54,6 +56,10 @@ pub(crate) fn write_file_set<F: Files + Progress, O: Origins>(
         (O.stands_at set.now.origins.now) (O.may_link set.now.origins.now)
         set.now.folder.now set.now.plan.now set.now.picks.now
         (F.held files.old) (F.held files.new) }
+
+    // Also where it is refused, the directory is made only once all else that it made was stored.
+    ensures last { IfSaid (MakesDirectoryLast set.now.folder.now)
+        (F.held files.old) (F.held files.new) }
 {
     copy_images(alloc, set, files)?;
     if files.folder(set.folder).is_err() {
@@ -74,7 +80,8 @@ fn store<F: Files>(files: &mut F) -> Result<(), Refusal>
     ensures refused { IsErr result → F.refusals files.new ≡ counted (F.refusals files.old) }
     ensures fault { IfErr result (λ refusal.
         refusal ≡ record { subject = Subject.Unstored; fault = ProgramFault.Unsent }) }
-    ensures kept { F.held files.new ≡ F.held files.old }
+    ensures stored { IsOk result → F.held files.new ≡ option_map stored (F.held files.old) }
+    ensures kept { IsErr result → F.held files.new ≡ F.held files.old }
 {
     match files.store() {
         Ok(()) => Ok(()),
@@ -82,7 +89,7 @@ fn store<F: Files>(files: &mut F) -> Result<(), Refusal>
     }
 }
 
-#[tactic(auto, using(crate::proofs::HeldPublished::held_published))]
+#[tactic(auto, using(dd_files::proofs::KeptFiles::held_published))]
 fn make_directory<F: Files>(path: &str, plan: &Plan, files: &mut F) -> Result<(), ProgramFault>
     ensures line { IfErr result (λ fault. ¬ IsBadLine fault) }
     ensures free { IsOk result → IsFree path.now (F.held files.old) }
@@ -92,6 +99,11 @@ fn make_directory<F: Files>(path: &str, plan: &Plan, files: &mut F) -> Result<()
         (F.held files.old) }
     ensures visited { IsOk result → RealisesPlan plan.now }
     ensures again { IsOk result → SaysPlan plan.now }
+    ensures adds { IfSaid (Adds (λ other. path.now ≡ other))
+        (F.held files.old) (F.held files.new) }
+    ensures part { IfSaid (IsPartWritten path.now
+        (directory_of plan.now.label plan.now.versions plan.now.withdrawn))
+        (F.held files.old) (F.held files.new) }
 {
     start_directory(path, files)?;
     send_directory(plan, files)?;
@@ -104,6 +116,7 @@ fn start_directory<F: Files>(path: &str, files: &mut F) -> Result<(), ProgramFau
     ensures free { IsOk result → IsFree path.now (F.held files.old) }
     ensures made { IsOk result
         → F.held files.new ≡ option_map (started path.now) (F.held files.old) }
+    ensures kept { IsErr result → F.held files.new ≡ F.held files.old }
 {
     match files.create(path) {
         Ok(()) => Ok(()),
@@ -120,6 +133,9 @@ fn send_directory<F: Files>(plan: &Plan, files: &mut F) -> Result<(), ProgramFau
         (F.held files.old) }
     ensures visited { IsOk result → RealisesPlan plan.now }
     ensures again { IsOk result → SaysPlan plan.now }
+    ensures grows { (front : List ℕ) × ((rest : List ℕ)
+        × (directory_of plan.now.label plan.now.versions plan.now.withdrawn ≡ front ++ rest))
+        × (F.held files.new ≡ option_map (grown front) (F.held files.old)) }
 {
     match write_directory(plan, files) {
         Ok(_) => Ok(()),
@@ -131,6 +147,10 @@ fn finish_directory<F: Files>(files: &mut F) -> Result<(), ProgramFault>
     ensures refused { IsErr result → F.refusals files.new ≡ counted (F.refusals files.old) }
     ensures fault { IfErr result (λ fault. fault ≡ ProgramFault.Unsent) }
     ensures closed { IsOk result → F.held files.new ≡ option_map ended (F.held files.old) }
+    ensures adds { (path : List ℕ) → IfSaid (Adds (λ other. path ≡ other))
+        (F.held files.old) (F.held files.new) }
+    ensures same { IfSaid (λ old new. new.bytes_at ≡ old.bytes_at)
+        (F.held files.old) (F.held files.new) }
 {
     match files.finish() {
         Ok(()) => Ok(()),

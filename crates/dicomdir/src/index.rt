@@ -3,9 +3,11 @@ ghost use Rattle.std.specs.Prelude.{false, length, true};
 ghost use Rattle.dd_elem.specs.Device.{HasFailed};
 ghost use Rattle.dd_engine.specs.Indexed.{IsNamed, IsWithin};
 ghost use Rattle.dd_engine.specs.Noting.{AreBelow, IsBelow};
+ghost use Rattle.dd_files.specs.Keeping.{IfSaid};
 ghost use Rattle.dd_line.specs.Line.{words_of};
 ghost use Rattle.dd_lines.specs.Text.{TakesText};
 ghost use Rattle.dicomdir.specs.Indexes.{DoneIndexes, Indexes, IsIndexStatus, has_failed, status_past};
+ghost use Rattle.dicomdir.specs.Left.{MakesDirectoryLast};
 ghost use Rattle.dicomdir.specs.ListedNames.{AreOfSources, HavePaths};
 ghost use Rattle.dicomdir.specs.Noted.{IsNotedIndex};
 ghost use Rattle.dicomdir.specs.Prints.{PrintsIndex};
@@ -46,6 +48,7 @@ pub(crate) fn run_index<F: Files + Progress + Hints, O: Write>(
     ensures refusal { IfErr result (IsOfWork (length sources.now)) }
     ensures status { IfOk result (IsIndexStatus making.entry.keep_going) }
     ensures dry { making.entry.dry_run ≡ true → F.held files.new ≡ F.held files.old }
+    ensures last { IfSaid (MakesDirectoryLast making.entry.folder.now) (F.held files.old) (F.held files.new) }
     ensures made { (names : List (List ℕ))
         → HavePaths names (words_of sources.now) making.entry.bad_names.now
         → making.entry.dry_run ≡ false
@@ -66,6 +69,7 @@ pub(crate) fn run_index<F: Files + Progress + Hints, O: Write>(
 }
 
 /// Does so, and counts what becomes of the sources.
+#[tactic(auto, using(crate::proofs::MadeLast::same_directory))]
 fn index_sources<F: Files + Progress + Hints, O: Write>(
     making: Making<'_>,
     sources: &[String],
@@ -77,6 +81,7 @@ fn index_sources<F: Files + Progress + Hints, O: Write>(
     ensures refusal { IfErr result (IsOfWork (length sources.now)) }
     ensures status { IfOk result (IsIndexStatus making.entry.keep_going) }
     ensures dry { making.entry.dry_run ≡ true → F.held files.new ≡ F.held files.old }
+    ensures last { IfSaid (MakesDirectoryLast making.entry.folder.now) (F.held files.old) (F.held files.new) }
     ensures made { (names : List (List ℕ))
         → HavePaths names (words_of sources.now) making.entry.bad_names.now
         → making.entry.dry_run ≡ false

@@ -1,7 +1,8 @@
 //! Hard links to files, as images of a file-set.
 ghost use Rattle.std.specs.Prelude.{◌≡◌, ℕ, IfErr, IfOk, IfSome, IsErr, IsOk, IsSomeAnd, false, option_map, true};
 ghost use Rattle.dd_files.specs.Files.{linked};
-ghost use Rattle.dicomdir.specs.Made.{IsAsStored, IsFree, LinksImage};
+ghost use Rattle.dd_files.specs.Keeping.{Adds, IfSaid, IsFree};
+ghost use Rattle.dicomdir.specs.Made.{IsAsStored, IsImagePath, LinksImage};
 ghost use Rattle.dicomdir.specs.Refusal.{IsAmong, IsOfWork};
 
 use crate::images::{Image, make_folder, open, store_batch};
@@ -27,6 +28,8 @@ pub(crate) fn link_image<F: Files + Progress, O: Origins>(
         image.now.folder.now image.now.file (F.held files.old) (F.held files.new)) }
     ensures kept { IfOk result (λ is_linked.
         is_linked ≡ false → F.held files.new ≡ F.held files.old) }
+    ensures adds { IfSaid (Adds (IsImagePath image.now.folder.now))
+        (F.held files.old) (F.held files.new) }
 {
     let Image {
         folder,

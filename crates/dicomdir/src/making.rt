@@ -1,9 +1,11 @@
 ghost use Rattle.std.specs.Prelude.{◌≡◌, ◌≤◌, ◌⊎◌, All, IfErr, IfOk, IsErr, IsOk, OnOk, false, length, string_bytes};
 ghost use Rattle.dd_elem.specs.Device.{HasFailed};
+ghost use Rattle.dd_files.specs.Keeping.{IfSaid};
 ghost use Rattle.dd_layout.specs.Plans.{size};
 ghost use Rattle.dd_lines.specs.Text.{TakesText};
 ghost use Rattle.dicomdir.specs.Done.{counts_words, ending_text, images_text, images_words, word_of};
 ghost use Rattle.dicomdir.specs.Inspecting.{style_by};
+ghost use Rattle.dicomdir.specs.Left.{MakesDirectoryLast};
 ghost use Rattle.dicomdir.specs.Made.{MakesFileSet};
 ghost use Rattle.dicomdir.specs.Prints.{size_of};
 ghost use Rattle.dicomdir.specs.Refusal.{IsOfWork};
@@ -118,6 +120,7 @@ pub(crate) fn make_file_set<F: Files + Progress, O: Origins, W: Write>(
     requires { All (O.has set.now.origins.now) set.now.picks.now }
     ensures refusal { IfErr result (IsOfWork (O.paths set.now.origins.now)) }
     ensures status { IfOk result (λ status. status ≤ 1) }
+    ensures last { IfSaid (MakesDirectoryLast set.now.folder.now) (F.held files.old) (F.held files.new) }
     ensures made { IsOk result → MakesFileSet
         (O.stands_at set.now.origins.now) (O.may_link set.now.origins.now)
         set.now.folder.now set.now.plan.now set.now.picks.now

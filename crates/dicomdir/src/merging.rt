@@ -4,8 +4,10 @@ ghost use Rattle.std.specs.Prelude.{◌∷◌, ◌++◌, false, length, map, str
 ghost use Rattle.dd_elem.specs.Device.{HasFailed};
 ghost use Rattle.dd_engine.specs.Merging.{IsNamedSet};
 ghost use Rattle.dd_engine.specs.Noting.{IsBelow};
+ghost use Rattle.dd_files.specs.Keeping.{IfSaid};
 ghost use Rattle.dd_line.specs.Line.{words_of};
 ghost use Rattle.dd_lines.specs.Text.{TakesText};
+ghost use Rattle.dicomdir.specs.Left.{MakesDirectoryLast};
 ghost use Rattle.dicomdir.specs.Made.{IsMemberPath, MakesFileSet};
 ghost use Rattle.dicomdir.specs.Merges.{DoneMerges};
 ghost use Rattle.dicomdir.specs.Noted.{IsNoted, NamesBelow};
@@ -41,6 +43,7 @@ pub(crate) fn run_merge<F: Files + Progress + Hints, O: Write>(
     ensures refusal { IfErr result (IsOfWork (length sets.now)) }
     ensures status { IfOk result (λ status. status ≤ 1) }
     ensures dry { making.entry.dry_run ≡ true → F.held files.new ≡ F.held files.old }
+    ensures last { IfSaid (MakesDirectoryLast making.entry.folder.now) (F.held files.old) (F.held files.new) }
     ensures made { making.entry.dry_run ≡ false
         → DoneMerges result making.entry.names.now.choice making.entry.max_bytes []
         (words_of sets.now) (making.entry.link ≡ true) making.entry.folder.now
@@ -58,6 +61,7 @@ pub(crate) fn run_merge<F: Files + Progress + Hints, O: Write>(
 }
 
 /// Does so, and counts what becomes of the images.
+#[tactic(auto, using(crate::proofs::MadeLast::same_directory))]
 fn merge_sets<F: Files + Progress + Hints, O: Write>(
     making: Making<'_>,
     sets: &[String],
@@ -68,6 +72,7 @@ fn merge_sets<F: Files + Progress + Hints, O: Write>(
     ensures refusal { IfErr result (IsOfWork (length sets.now)) }
     ensures status { IfOk result (λ status. status ≤ 1) }
     ensures dry { making.entry.dry_run ≡ true → F.held files.new ≡ F.held files.old }
+    ensures last { IfSaid (MakesDirectoryLast making.entry.folder.now) (F.held files.old) (F.held files.new) }
     ensures made { making.entry.dry_run ≡ false
         → DoneMerges result making.entry.names.now.choice making.entry.max_bytes []
         (words_of sets.now) (making.entry.link ≡ true) making.entry.folder.now
@@ -103,6 +108,7 @@ pub(crate) fn run_withdraw<F: Files + Progress + Hints, O: Write>(
     ensures refusal { (paths : ℕ) → 0 < paths → IfErr result (IsOfWork paths) }
     ensures status { IfOk result (λ status. status ≤ 1) }
     ensures dry { making.entry.dry_run ≡ true → F.held files.new ≡ F.held files.old }
+    ensures last { IfSaid (MakesDirectoryLast making.entry.folder.now) (F.held files.old) (F.held files.new) }
     ensures made { making.entry.dry_run ≡ false
         → DoneMerges result making.entry.names.now.choice making.entry.max_bytes
         making.entry.names.now.withdrawn.items (string_bytes set.now ∷ []) ⊥ making.entry.folder.now
@@ -122,6 +128,7 @@ pub(crate) fn run_withdraw<F: Files + Progress + Hints, O: Write>(
     }
 }
 
+#[tactic(auto, using(crate::proofs::MadeLast::same_directory))]
 fn withdraw_of<F: Files + Progress + Hints, O: Write>(
     making: Making<'_>,
     sets: &[String],
@@ -133,6 +140,7 @@ fn withdraw_of<F: Files + Progress + Hints, O: Write>(
     ensures refusal { IfErr result (IsOfWork 1) }
     ensures status { IfOk result (λ status. status ≤ 1) }
     ensures dry { making.entry.dry_run ≡ true → F.held files.new ≡ F.held files.old }
+    ensures last { IfSaid (MakesDirectoryLast making.entry.folder.now) (F.held files.old) (F.held files.new) }
     ensures made { making.entry.dry_run ≡ false
         → DoneMerges result making.entry.names.now.choice making.entry.max_bytes
         making.entry.names.now.withdrawn.items (words_of sets.now) ⊥ making.entry.folder.now
@@ -165,6 +173,7 @@ fn withdraw_of<F: Files + Progress + Hints, O: Write>(
 
 /// Prints what is noted of these file-sets, and then makes what was planned of them, or prints what would be made.
 /// Answers the status.
+#[tactic(auto, using(crate::proofs::MadeLast::same_directory))]
 fn write_noted<'a, F: Files + Progress + Hints, O: Write>(
     making: Making<'_>,
     sets: &SetFiles<'_, 'a>,
@@ -177,6 +186,7 @@ fn write_noted<'a, F: Files + Progress + Hints, O: Write>(
     ensures refusal { IfErr result (IsOfWork (length sets.now.folders.now)) }
     ensures status { IfOk result (λ status. status ≤ 1) }
     ensures dry { making.entry.dry_run ≡ true → F.held files.new ≡ F.held files.old }
+    ensures last { IfSaid (MakesDirectoryLast making.entry.folder.now) (F.held files.old) (F.held files.new) }
     ensures strict { making.entry.strict ≡ true → IsNoted noted.now
         → IfOk result (λ status. status ≡ 1) × IfErr result IsStrict
         × (F.held files.new ≡ F.held files.old) }

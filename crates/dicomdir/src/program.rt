@@ -1,5 +1,6 @@
 //! The program's run.
 ghost use Rattle.std.specs.Prelude.{◌≡◌, ◌≤◌, ◌<◌, ◌⊎◌, ◌↔◌, ℕ, List, [], IfErr, IfOk, length, true, false};
+ghost use Rattle.dd_files.specs.Keeping.{IfSaid};
 ghost use Rattle.dd_line.specs.Line.{HasBadLimit, HasBadName, IsCheck, IsReading, LacksSources, OnlyReads};
 ghost use Rattle.dd_line.specs.Line.{words_of};
 ghost use Rattle.dd_line.specs.Requests.{id_of, instances_of, is_dry, keeps_going, read_of, uid_of, verb_of};
@@ -7,6 +8,7 @@ ghost use Rattle.dicomdir.specs.DryRun.{HasDryRun, HasKeepGoing};
 ghost use Rattle.dicomdir.specs.EmptyPaths.{HasEmptyPath, RequestsEmptyPath};
 ghost use Rattle.dicomdir.specs.Inspecting.{ChecksSet, IsList, ListsSet, PrintsRequested, comparison_in, first_path};
 ghost use Rattle.dicomdir.specs.Inspecting.{form_in, style_in};
+ghost use Rattle.dicomdir.specs.Last.{MakesLastLine, MakesLastOf};
 ghost use Rattle.dicomdir.specs.Lines.{IndexSays, IndexesLine, IsIndex, IsMerge, IsWithdraw, MergeSays, MergesLine};
 ghost use Rattle.dicomdir.specs.Lines.{IsPublish, IsStage, PublishSays, PublishesLine, StagesLine, WithdrawSays};
 ghost use Rattle.dicomdir.specs.Lines.{WithdrawsLine};
@@ -117,6 +119,11 @@ pub fn run<F: Files + Progress + Hints, O: Write, E: Write>(
     ensures dry { IsTaken words.items → HasDryRun (line_of words.items)
         → F.held files.new ≡ F.held files.old }
 
+    // Wherever the power is cut and whatever the status: what stood before is as it was. The last file, which is the
+    // directory in OUT or the list of a pile, is as it was before, or else all others are there, whole.
+    ensures cuts { IsTaken words.items → IfSaid (MakesLastLine (line_of words.items))
+        (F.held files.old) (F.held files.new) }
+
     // Where they say that, the file-set that the words ask for stands in OUT: all images of its plan and its directory,
     // at paths where no file stood. Each image is a file of the version that is planned there; only with `--link` may
     // it have the bytes of the picked file, whatever these are. All other files are as they were.
@@ -169,6 +176,7 @@ pub fn run<F: Files + Progress + Hints, O: Write, E: Write>(
 }
 
 /// Prints a refusal if there is one, and answers the status.
+#[tactic(auto, using(crate::proofs::MadeLast::same_request))]
 fn run_request<F: Files + Progress + Hints, O: Write, E: Write>(
     alloc: Global,
     request: &Request,
@@ -183,6 +191,7 @@ fn run_request<F: Files + Progress + Hints, O: Write, E: Write>(
     ensures done { result ≡ 0 → err.new ≡ err.old }
     ensures kept { OnlyReads (verb_of request.now) → F.held files.new ≡ F.held files.old }
     ensures dry { is_dry request.now ≡ true → F.held files.new ≡ F.held files.old }
+    ensures last { IfSaid (MakesLastOf request.now) (F.held files.old) (F.held files.new) }
     ensures made { is_dry request.now ≡ false → IsDone result
         → MakesRequested request.now (choice_by (id_of request.now) (uid_of request.now))
         (words_of (instances_of request.now)) result (F.held files.old) (F.held files.new) }
@@ -216,6 +225,7 @@ fn run_request<F: Files + Progress + Hints, O: Write, E: Write>(
 }
 
 /// Runs the command, whose paths have passed. Prints a refusal if there is one, and answers the status.
+#[tactic(auto, using(crate::proofs::MadeLast::same_request))]
 fn run_named<F: Files + Progress + Hints, O: Write, E: Write>(
     alloc: Global,
     work: Work<'_>,
@@ -228,6 +238,7 @@ fn run_named<F: Files + Progress + Hints, O: Write, E: Write>(
     ensures kept { OnlyReads (verb_of work.entry.request.now)
         → F.held files.new ≡ F.held files.old }
     ensures dry { is_dry work.entry.request.now ≡ true → F.held files.new ≡ F.held files.old }
+    ensures last { IfSaid (MakesLastOf work.entry.request.now) (F.held files.old) (F.held files.new) }
     ensures made { is_dry work.entry.request.now ≡ false → IsDone result
         → MakesRequested work.entry.request.now work.entry.names.now.choice
         work.entry.names.now.withdrawn.items result (F.held files.old) (F.held files.new) }
@@ -272,6 +283,7 @@ fn silence_quiet<F: Files + Progress>(request: &Request, files: &mut F)
 }
 
 /// Runs the command on these sources, of which the line itself gives the first.
+#[tactic(auto, using(crate::proofs::MadeLast::same_request))]
 fn run_verb<F: Files + Progress + Hints, O: Write>(
     alloc: Global,
     work: Work<'_>,
@@ -287,6 +299,7 @@ fn run_verb<F: Files + Progress + Hints, O: Write>(
     ensures kept { OnlyReads (verb_of work.entry.request.now)
         → F.held files.new ≡ F.held files.old }
     ensures dry { is_dry work.entry.request.now ≡ true → F.held files.new ≡ F.held files.old }
+    ensures last { IfSaid (MakesLastOf work.entry.request.now) (F.held files.old) (F.held files.new) }
 
     ensures made { (names : List (List ℕ))
         → HavePaths names (words_of sources.now) work.entry.bad_names.now

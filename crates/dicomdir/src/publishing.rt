@@ -5,8 +5,10 @@ ghost use Rattle.dd_engine.specs.Indexed.{IsWithin};
 ghost use Rattle.dd_engine.specs.IndexNotes.{NotesIndex};
 ghost use Rattle.dd_engine.specs.Indexing.{Answer};
 ghost use Rattle.dd_engine.specs.Noting.{AreBelow, IsBelow};
+ghost use Rattle.dd_files.specs.Keeping.{IfSaid};
 ghost use Rattle.dd_line.specs.Line.{words_of};
 ghost use Rattle.dicomdir.specs.Indexes.{limits_of};
+ghost use Rattle.dicomdir.specs.Left.{MakesDirectoryLast};
 ghost use Rattle.dicomdir.specs.Publishes.{DonePublishes, PrintsPublish, placed_bytes};
 ghost use Rattle.dicomdir.specs.Refusal.{IsOfWork};
 
@@ -36,6 +38,7 @@ pub(crate) fn run_publish<F: Files + Progress + Hints, O: Write>(
     ensures refusal { IfErr result (IsOfWork (length piles.now)) }
     ensures status { IfOk result (λ status. status ≤ 1) }
     ensures dry { making.entry.dry_run ≡ true → F.held files.new ≡ F.held files.old }
+    ensures last { IfSaid (MakesDirectoryLast making.entry.folder.now) (F.held files.old) (F.held files.new) }
     ensures made { making.entry.dry_run ≡ false
         → DonePublishes result making.entry.names.now.choice making.entry.max_bytes
         (words_of piles.now) (making.entry.link ≡ true) making.entry.folder.now
@@ -53,6 +56,7 @@ pub(crate) fn run_publish<F: Files + Progress + Hints, O: Write>(
 }
 
 /// Does so, and counts what becomes of the sources.
+#[tactic(auto, using(crate::proofs::MadeLast::same_directory))]
 fn publish_piles<F: Files + Progress + Hints, O: Write>(
     making: Making<'_>,
     piles: &[String],
@@ -63,6 +67,7 @@ fn publish_piles<F: Files + Progress + Hints, O: Write>(
     ensures refusal { IfErr result (IsOfWork (length piles.now)) }
     ensures status { IfOk result (λ status. status ≤ 1) }
     ensures dry { making.entry.dry_run ≡ true → F.held files.new ≡ F.held files.old }
+    ensures last { IfSaid (MakesDirectoryLast making.entry.folder.now) (F.held files.old) (F.held files.new) }
     ensures made { making.entry.dry_run ≡ false
         → DonePublishes result making.entry.names.now.choice making.entry.max_bytes
         (words_of piles.now) (making.entry.link ≡ true) making.entry.folder.now

@@ -2,11 +2,13 @@
 ghost use Rattle.std.specs.Prelude.{◌≡◌, ◌<◌, ◌≤◌, ◌⊎◌, ℕ, List, IfErr, IfOk, IsErr, IsOk, OnOk, length, map};
 ghost use Rattle.std.specs.Prelude.{string_bytes};
 ghost use Rattle.dd_elem.specs.Device.{HasFailed};
+ghost use Rattle.dd_files.specs.Keeping.{IfSaid};
 ghost use Rattle.dd_line.specs.Line.{words_of};
 ghost use Rattle.dd_lines.specs.Text.{TakesText};
 ghost use Rattle.dd_pile.specs.Refusals.{Names};
 ghost use Rattle.dicomdir.specs.From.{from_text, looked_up};
 ghost use Rattle.dicomdir.specs.Inspecting.{style_by};
+ghost use Rattle.dicomdir.specs.Last.{StagesListLast};
 ghost use Rattle.dicomdir.specs.Refusal.{IsOfWork};
 ghost use Rattle.dicomdir.specs.Stages.{MakesNamed, Stages, staged_text, staged_words};
 
@@ -36,6 +38,7 @@ pub(crate) fn run_stage<F: Files + Progress, O: Write>(
 ) -> Result<u8, Refusal>
     ensures refusal { IfErr result (IsOfWork (length names.now)) }
     ensures status { IfOk result (λ status. status ≤ 1) }
+    ensures last { IfSaid (StagesListLast (string_bytes stage.now.pile)) (F.held files.old) (F.held files.new) }
     ensures staged { IfOk result (λ status. status ≡ 0 → Stages O.Write (style_by stage.now.json)
         (from_text stage.now.from) (string_bytes stage.now.pile) (words_of names.now)
         (F.held files.old) (F.held files.new) out.old out.new) }
@@ -47,6 +50,7 @@ pub(crate) fn run_stage<F: Files + Progress, O: Write>(
 }
 
 /// Makes the pile of the sources with these names.
+#[tactic(auto, using(crate::proofs::MadeLast::same_list))]
 fn stage_named<F: Files + Progress>(
     alloc: Global,
     stage: &StageRequest,
@@ -54,6 +58,7 @@ fn stage_named<F: Files + Progress>(
     files: &mut F,
 ) -> Result<StageSum, StageRefusal>
     ensures refusal { IfErr result (Names (λ at. at < length names.now)) }
+    ensures last { IfSaid (StagesListLast (string_bytes stage.now.pile)) (F.held files.old) (F.held files.new) }
     ensures made { IfOk result (λ sum. MakesNamed (from_text stage.now.from)
         (string_bytes stage.now.pile) (words_of names.now) sum (F.held files.old) (F.held files.new)) }
 {
@@ -81,6 +86,7 @@ fn all_looked_up(alloc: Global, from: &str, names: &[String]) -> Result<Vec<Stri
 }
 
 /// Makes the pile of the sources at these paths.
+#[tactic(auto, using(crate::proofs::MadeLast::same_list, crate::proofs::MadeLast::list_cuts))]
 fn stage_at<F: Files + Progress>(
     alloc: Global,
     pile: &str,
@@ -90,6 +96,7 @@ fn stage_at<F: Files + Progress>(
 ) -> Result<StageSum, StageRefusal>
     requires { length paths.now ≡ length names.now }
     ensures refusal { IfErr result (Names (λ at. at < length names.now)) }
+    ensures last { IfSaid (StagesListLast pile.now) (F.held files.old) (F.held files.new) }
     ensures made { (from : List ℕ) → words_of paths.now ≡ map (looked_up from) (words_of names.now)
         → IfOk result (λ sum. MakesNamed from pile.now (words_of names.now) sum
         (F.held files.old) (F.held files.new)) }

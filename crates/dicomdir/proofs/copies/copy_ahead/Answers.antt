@@ -1,8 +1,11 @@
 -- All bytes that were read ahead went to a new file, which then ended.
 use Rattle.std.proofs.Common.{subst}
+use Rattle.dd_files.proofs.KeptFiles.{held_published, said_grown, said_then}
 use Rattle.dd_filing.specs.Filing.{IsFileAs}
 use Rattle.dd_filing.specs.declared.agreeing.Filed.{Filed}
-use Rattle.dicomdir.proofs.HeldPublished.{held_published}
+use Rattle.dicomdir.proofs.Fronts.{ahead_front}
+use Rattle.dicomdir.proofs.ImagePlaces.{image_path}
+use Rattle.dicomdir.specs.Made.{IsImagePath}
 use Rattle.dicomdir.proofs.copies.copy_ahead.Goals as goal
 
 pub returns-in-Ok-clause-made : goal.returns-in-Ok-clause-made
@@ -13,6 +16,7 @@ returns-in-Ok-clause-made g c = λ done.
     record {
       path = start.path;
       bytes = bytes;
+      ranks = start.ranks;
       place = start.place;
       free = start.free;
       of = c.requires.known sent.0;
@@ -26,3 +30,21 @@ returns-in-Ok-clause-made g c = λ done.
 pub returns-in-Err-clause-refusal : goal.returns-in-Err-clause-refusal
 returns-in-Err-clause-refusal g c =
     c.refusal_of.ensures.work (g.O.Origins.paths c.args.image.now.origins.now) c.subject.ensures.among
+
+pub returns-in-Ok-clause-adds : goal.returns-in-Ok-clause-adds
+returns-in-Ok-clause-adds g c =
+    let start = c.in_ok-start_copy.ensures.started cc in
+    let went = c.in-Ok.ensures.1.1 in
+    let bytes = c.args.ahead.now.bytes in
+    let MayBe = IsImagePath c.args.image.now.folder.now in
+    said_then MayBe _ _ _
+    (said_grown MayBe start.path bytes _ _ _ (image_path start) start.free start.started
+    (g.met.F.Files.written_grows _ _ bytes went.stays went.holds)) c.end_copy.ensures.adds
+
+pub returns-in-Err-clause-adds : goal.returns-in-Err-clause-adds
+returns-in-Err-clause-adds g c =
+    let start = c.in_ok-start_copy.ensures.started cc in
+    let front = ahead_front g.F.Write _ _ c.args.image.now.planned.now c.in-Err.fault c.args.ahead.now c.in-Err.ensures
+    in
+    said_grown (IsImagePath c.args.image.now.folder.now) start.path front.bytes _ _ _ (image_path start) start.free
+    start.started (g.met.F.Files.written_grows _ _ front.bytes front.stays front.holds)

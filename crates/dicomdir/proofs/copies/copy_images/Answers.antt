@@ -1,6 +1,8 @@
 -- The image of a record more is made after those before it.
 use Rattle.std.proofs.Common.{arith}
+use Rattle.dd_files.proofs.KeptFiles.{said_then}
 use Rattle.dicomdir.proofs.ImagesMade.{so_far_more}
+use Rattle.dicomdir.specs.Made.{IsImagePath}
 use Rattle.dicomdir.proofs.copies.copy_images.Goals as goal
 
 pub loop-record-preserved : goal.loop-record-preserved
@@ -17,4 +19,10 @@ loop-record-preserved g c =
           (omega (arith, within)) (rw (← c.record-item.is) (c.in_ok-copy_record.ensures.copied cc))
           c.loop-record.invariant.made;
       known = c.in_ok-copy_record.ensures.known cc;
+      adds = said_then (IsImagePath c.args.set.now.folder.now) _ _ _ c.loop-record.invariant.adds
+          c.copy_record.ensures.adds;
     }
+
+pub returns-in_err-copy_record-clause-adds : goal.returns-in_err-copy_record-clause-adds
+returns-in_err-copy_record-clause-adds g c =
+    said_then (IsImagePath c.args.set.now.folder.now) _ _ _ c.loop-record.invariant.adds c.copy_record.ensures.adds

@@ -1,6 +1,8 @@
--- The images of the records so far are made, where there is a pick.
+-- The images of the records so far are made, where there is a pick, and nothing else was added.
 use Rattle.std.specs.Prelude.{All}
+use Rattle.dd_files.specs.Keeping.{Adds, IfSaid}
 use Rattle.dicomdir.proofs.ImagesMade.{SoFar}
+use Rattle.dicomdir.specs.Made.{IsImagePath}
 use Rattle.dicomdir.specs.ReadingAhead.{KnowsNext}
 use Rattle.dicomdir.proofs.copies.copy_images.Given as goal
 
@@ -11,4 +13,5 @@ invariant-loop-record g l = record {
       l.set.folder.now l.set.plan.now.versions l.record-items l.set.picks.now l.record-index l.left.picks.now
       (g.F.Files.held l.initial.files) (g.F.Files.held l.files);
   known : KnowsNext (g.O.Origins.stands_at l.set.origins.now) l.left.picks.now l.left.ahead (g.F.Files.held l.files);
+  adds : IfSaid (Adds (IsImagePath l.set.folder.now)) (g.F.Files.held l.fn.files) (g.F.Files.held l.files);
 }

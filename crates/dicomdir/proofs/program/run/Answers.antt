@@ -1,10 +1,12 @@
 use Rattle.std.proofs.Common.{◌≤◌, ℕ, arith, inl, inr, subst, sym}
 use Rattle.std.specs.Prelude.{◌⊎◌}
+use Rattle.dd_files.specs.Keeping.{IfSaid}
 use Rattle.dd_line.specs.Line.{HasBadLimit, HasBadName, IsCheck, IsReading, LacksSources}
 use Rattle.dd_line.proofs.RequestLemmas.{given_bad, requested_bad, requested_check, requested_reads}
 use Rattle.dicomdir.specs.DryRun.{HasDryRun, HasKeepGoing}
 use Rattle.dicomdir.specs.EmptyPaths.{HasEmptyPath}
 use Rattle.dicomdir.specs.Inspecting.{ChecksSet, IsList, ListsSet, comparison_in, first_path, form_in, style_in}
+use Rattle.dicomdir.specs.Last.{MakesLastLine}
 use Rattle.dicomdir.specs.Lines.{IndexesLine, IsIndex, IsMerge, IsPublish, IsStage, IsWithdraw, MergesLine}
 use Rattle.dicomdir.specs.Lines.{IndexSays, MergeSays, PublishSays, PublishesLine, StagesLine, WithdrawSays}
 use Rattle.dicomdir.specs.Lines.{WithdrawsLine}
@@ -13,6 +15,7 @@ use Rattle.dicomdir.specs.Words.{IsTaken, line_of}
 use Rattle.dicomdir.proofs.DryRuns.{given_keep_going, requested_dry, requested_work}
 use Rattle.dicomdir.proofs.EmptyWords.{requested_empty}
 use Rattle.dicomdir.proofs.InspectedLines.{requested_checks, requested_lists}
+use Rattle.dicomdir.proofs.LinesLast.{last_line, unmade_line}
 use Rattle.dicomdir.proofs.LinesMade.{given_index, given_merge, given_publish, given_stage, given_withdraw}
 use Rattle.dicomdir.proofs.LinesSaid.{index_says, merge_says, publish_says, withdraw_says}
 use Rattle.dicomdir.proofs.LinesRefused.{taken_lacks, taken_mistake}
@@ -62,6 +65,12 @@ pub returns-in-Ok-clause-dry : goal.returns-in-Ok-clause-dry
 returns-in-Ok-clause-dry g c = λ _ has.
     c.run_request.ensures.dry (requested_dry c.in-Ok.request _ c.in-Ok.ensures.request
     (subst (λ words. HasDryRun (line_of words)) (sym c.as_slice.ensures.value) has))
+
+pub returns-in-Ok-clause-cuts : goal.returns-in-Ok-clause-cuts
+returns-in-Ok-clause-cuts g c = λ _.
+    subst (λ words. IfSaid (MakesLastLine (line_of words)) (g.F.Files.held c.args.files.now)
+    (g.F.Files.held c.run_request.new.files)) c.as_slice.ensures.value
+    (last_line c.in-Ok.request (line_of c.as_slice.result.now) _ _ c.in-Ok.ensures.request c.run_request.ensures.last)
 
 pub returns-in-Ok-clause-indexes : goal.returns-in-Ok-clause-indexes
 returns-in-Ok-clause-indexes g c = λ done _ names works.
@@ -202,6 +211,9 @@ returns-clause-empty g c = λ taken _.
     let still = subst (λ words. IsTaken words) (sym c.as_slice.ensures.value) taken in
     let amiss = c.refuse_line.ensures.mistake (taken_mistake c.in-Err.fault _ _ (c.in-Err.ensures.passes still)) in
     (amiss.0, cc, amiss.1)
+
+pub returns-clause-cuts : goal.returns-clause-cuts
+returns-clause-cuts g c = λ _. unmade_line (line_of c.args.words.items) (g.F.Files.held c.args.files.now)
 
 pub returns-clause-indexes : goal.returns-clause-indexes
 returns-clause-indexes g c = λ is taken _ _.

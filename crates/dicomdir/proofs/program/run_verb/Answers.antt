@@ -7,6 +7,25 @@ use Rattle.dicomdir.proofs.LinesMade.{index_done, merge_done, publish_done}
 use Rattle.dicomdir.proofs.LinesSaid.{index_said, merge_said, publish_said}
 use Rattle.dicomdir.proofs.program.run_verb.Goals as goal
 
+pub returns-in-Index-clause-last : goal.returns-in-Index-clause-last
+returns-in-Index-clause-last g c = rw c.in-Index.is (rw c.of-making.ensures.folder at c.run_index.ensures.last)
+
+pub returns-in-Merge-clause-last : goal.returns-in-Merge-clause-last
+returns-in-Merge-clause-last g c = rw c.in-Merge.is (rw c.of-making-in-Merge.ensures.folder at c.run_merge.ensures.last)
+
+pub returns-in-Withdraw-clause-last : goal.returns-in-Withdraw-clause-last
+returns-in-Withdraw-clause-last g c =
+    rw c.in-Withdraw.is (rw c.of-making-in-Withdraw.ensures.folder at c.run_withdraw.ensures.last)
+
+pub returns-in-Stage-clause-last : goal.returns-in-Stage-clause-last
+returns-in-Stage-clause-last g c = rw c.in-Stage.is c.run_stage.ensures.last
+
+pub returns-in_ok-folder-in-Publish-clause-last : goal.returns-in_ok-folder-in-Publish-clause-last
+returns-in_ok-folder-in-Publish-clause-last g c =
+    let looked = rw (c.from_of.ensures, c.in-Publish.is, c.as_str.ensures.value) at c.in_ok-folder-in-Publish.ensures in
+    let folder = c.as_str-in-Publish.ensures.value ∙ looked in
+    rw c.in-Publish.is (rw folder at c.run_publish.ensures.last)
+
 pub returns-in-Index-clause-made : goal.returns-in-Index-clause-made
 returns-in-Index-clause-made g c = rw c.in-Index.is (λ names have none makes.
     let of = c.of-making.ensures in
