@@ -12,7 +12,7 @@ use dicomdir::{Files, NotThere, run};
 use std::alloc::Global;
 use std::test::Fail;
 
-/// The calls that can want memory, and those that never do.
+/// The calls that can want memory.
 #[derive(Clone, Copy)]
 enum Call {
     Create,
@@ -252,17 +252,29 @@ fn allocations_of_write(rt: HostRuntime) -> Result<(), Fail> {
     refuse_each(rt.alloc(), Call::Write)
 }
 
-fn folder_finish_store_refused(alloc: Global, chosen: u32) -> Result<bool, Fail> {
+/// Gives files that have kept three calls. The first made room for four.
+fn after_three_calls(alloc: Global) -> Result<MemFiles, Fail> {
     let mut files = disc(alloc)?;
+    files.create("old.txt")?;
+    files.finish()?;
+    files.store()?;
+    Ok(files)
+}
+
+fn folder_finish_store_refused(alloc: Global, chosen: u32) -> Result<bool, Fail> {
+    let mut files = after_three_calls(alloc)?;
     files.create("new.txt")?;
+    let mut stored = after_three_calls(alloc)?;
+    stored.store()?;
     refuse_allocation(alloc, chosen)?;
     let are_folders = files.folder("new").is_ok() && files.folder_in("new", "new/a").is_ok();
-    let are_stored = files.finish().is_ok() && files.store_batch().is_ok() && files.store().is_ok();
-    was_refused(alloc, !are_folders || !are_stored)
+    let is_ended = files.finish().is_ok() && files.store_batch().is_ok();
+    let is_stored = stored.store().is_ok();
+    was_refused(alloc, !are_folders || !is_ended || !is_stored)
 }
 
 #[test]
-fn no_allocations_of_folder_finish_and_store(rt: HostRuntime) -> Result<(), Fail> {
+fn allocations_of_folder_finish_and_store(rt: HostRuntime) -> Result<(), Fail> {
     refuse_each(rt.alloc(), Call::FolderFinishStore)
 }
 

@@ -1,7 +1,7 @@
 mod allocations;
 mod checks;
 mod devices;
-mod disc;
+pub(crate) mod disc;
 mod hints;
 mod images;
 mod json;
@@ -11,6 +11,6 @@ mod merges;
 mod mistakes;
 mod names;
 mod runs;
-mod scripts;
+pub(crate) mod scripts;
 mod stages;
 mod withdrawals;

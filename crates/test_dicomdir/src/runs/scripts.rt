@@ -7,7 +7,7 @@ use std::alloc::Global;
 use std::test::Fail;
 
 /// Makes the disc after steps, separated by `; `.
-fn disc_after(alloc: Global, steps: &str) -> Result<MemFiles, Fail> {
+pub(crate) fn disc_after(alloc: Global, steps: &str) -> Result<MemFiles, Fail> {
     let mut files = disc(alloc)?;
     for step in steps.split("; ") {
         take_step(alloc, step, &mut files)?;
@@ -17,7 +17,8 @@ fn disc_after(alloc: Global, steps: &str) -> Result<MemFiles, Fail> {
 
 const RUNS: [&str; 4] = ["index ", "merge ", "withdraw ", "stage "];
 
-/// Runs a line, which must succeed, has hard links refused, has the first reader of a file fail, or puts files.
+/// Runs a line, which must succeed, has hard links refused, has the first reader of a file fail, has writes fail after
+/// some bytes, has a later call refused, or puts files.
 fn take_step(alloc: Global, step: &str, files: &mut MemFiles) -> Result<(), Fail> {
     if step == "no links" {
         files.refuse_links();
@@ -25,6 +26,14 @@ fn take_step(alloc: Global, step: &str, files: &mut MemFiles) -> Result<(), Fail
     }
     if let Some(path) = step.strip_prefix("unread ") {
         files.fail_read(path, 1, 0)?;
+        return Ok(());
+    }
+    if let Some(after) = step.strip_prefix("full ") {
+        files.fail_write(after.parse()?);
+        return Ok(());
+    }
+    if let Some(number) = step.strip_prefix("refused ") {
+        files.fail_call(number.parse()?);
         return Ok(());
     }
     if !RUNS.iter().any(|run| step.starts_with(run)) {
