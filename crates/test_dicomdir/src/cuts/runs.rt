@@ -74,7 +74,7 @@ fn require_stored(alloc: Global, run: Asked) -> Result<(), Fail> {
     Ok(())
 }
 
-/// Fails unless the files are those of before and those that the calls make.
+/// Fails where a file that stood before the run has changed or is gone, or where a file stands that no call made.
 fn require_kept(alloc: Global, steps: &str, run: Asked) -> Result<(), Fail> {
     let mut files = disc_after(alloc, steps)?;
     for path in run.made(alloc)?.iter() {
