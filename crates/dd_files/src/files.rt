@@ -1,5 +1,5 @@
 ghost use Rattle.std.specs.Prelude.{◌≡◌, ◌≢◌, ℕ, List, [], Option, None, Err, IsSome, IfSome, IsSomeAnd, IsOk, IfOk};
-ghost use Rattle.std.specs.Prelude.{IsTrue, length, option_map};
+ghost use Rattle.std.specs.Prelude.{IsTrue, false, length, option_map};
 ghost use Rattle.std.specs.Io.KnownBytes.{Appends};
 ghost use Rattle.dd_files.specs.Files.{Held, IsCall, IsUnread, ended, grown, linked, started, stored, written};
 
@@ -47,6 +47,9 @@ pub trait Files: Write {
     // None where it is not known.
     ghost held: { Self → Option Held };
 
+    // Something may be at this path.
+    ghost is_taken: { Self → List ℕ → Type 0 };
+
     /// Says how many files are digested at once.
     fn lanes(&self) -> Lanes;
 
@@ -93,8 +96,9 @@ pub trait Files: Write {
     /// Says whether nothing is at this path: no file, no folder and no symbolic link, not even one that leads nowhere.
     /// False where the system doesn't say.
     fn is_free(&self, path: &str) -> bool
-        ensures { IsTrue result
-            → IfSome (held self.now) (λ files. files.bytes_at path.now ≡ None) };
+        ensures free { IsTrue result
+            → IfSome (held self.now) (λ files. files.bytes_at path.now ≡ None) }
+        ensures taken { result ≡ false → is_taken self.now path.now };
 
     /// Starts a new file, to which later writes go. Refused where the name is taken.
     fn create(&mut self, path: &str) -> Result<(), NotDone>

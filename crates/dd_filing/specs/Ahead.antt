@@ -1,5 +1,5 @@
 -- What is known of files ahead of their copies, and what writing a file that was read answers.
-use Rattle.std.specs.Prelude.{◌≡◌, ◌≤◌, ℕ, Bool, true, false, List, [], ◌∷◌, ◌++◌, take, get_or}
+use Rattle.std.specs.Prelude.{◌≡◌, ◌≤◌, ℕ, Bool, true, false, List, [], ◌∷◌, ◌++◌, All, take, get_or}
 use Rattle.std.specs.Prelude.{Option, None, Result, Ok, Err, IfErr, ⊤, if◌then◌else◌}
 use Rattle.sha2.specs.Sha256.{sha256}
 use Rattle.sha2.specs.declared.Sha256.{Sha256}
@@ -72,6 +72,16 @@ with_file all file = record { files = all.files ++ file ∷ []; past = all.past;
 -- what is known of the first that is not past
 abbrev pub first_left : NextFiles → Ahead
 first_left all = shown all.digested (get_or all.files all.past known.Unknown)
+
+-- What speaks for a file that is refused in its turn: that one was not opened, or that a read failed.
+abbrev pub IsDue : Type 0 → Type 0 → Ahead → Type 0
+IsDue Refuses Fails (known.File file) = file.whole ≡ false → Fails
+IsDue Refuses Fails known.Absent = Refuses
+IsDue Refuses Fails known.Unknown = ⊤
+
+-- the same of each of them
+abbrev pub AreDue : Type 0 → Type 0 → NextFiles → Type 0
+AreDue Refuses Fails all = All (IsDue Refuses Fails) all.files
 
 -- ---- places
 

@@ -20,6 +20,8 @@ impl Files for MemFiles {
 
     ghost held = { told_of };
 
+    ghost is_taken = { λ _ _. Unit {0} };
+
     /// Opens a copy of the file's bytes. NotThere where the call is to be refused, there is no such file, an allocation
     /// is refused or the refusals are at their last value. That counts as no opening.
     fn source(&mut self, path: &str) -> Result<MemReader, NotThere>

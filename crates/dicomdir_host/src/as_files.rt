@@ -39,6 +39,8 @@ impl<'a, R: System> Files for HostFiles<'a, R> {
 
     ghost held = { λ _. None };
 
+    ghost is_taken = { λ _ _. Unit {0} };
+
     fn source(&mut self, path: &str) -> Result<Self::In, NotThere> {
         let last = self.last;
         if self.refusals < u64::MAX {
