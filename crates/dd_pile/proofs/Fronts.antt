@@ -1,28 +1,14 @@
 -- However a copy was refused, a front of it was written and nothing else.
-use Rattle.std.proofs.Common.{◌≡◌, ℕ, List, Option, Err}
-use Rattle.std.specs.Io.KnownBytes.{Appends}
+use Rattle.std.proofs.Common.{ℕ, List, Option, Err}
 use Rattle.dd_elem.specs.declared.device.Write.{Ghosts as WriteOf}
+use Rattle.dd_files.proofs.Fronts.{Front, stopped, went}
 use Rattle.dd_filing.specs.Copies.{IsAheadCopy, IsRefusedSource}
 use Rattle.dd_filing.specs.Taken.{Taken}
 use Rattle.dd_filing.specs.declared.copying.FilingFault.{FilingFault}
 use Rattle.dd_filing.specs.declared.copying.FilingFault.TheVariants.{Changed, Memory, Unread, Unsent}
-use Rattle.dd_stream.specs.Sends.{GoesTo, StopsBy, StopsIn, counts_of}
+use Rattle.dd_stream.specs.Sends.{StopsBy, counts_of}
 use Rattle.dd_stream.specs.declared.write_fault.WriteFault.{WriteFault}
 use Rattle.dd_stream.specs.declared.write_fault.WriteFault.TheVariants.{NotWritable, Write}
-
--- these bytes went to the writer
-pub record Front {W : Type 0} (writer : WriteOf W) (old new : W) : Type 0 where
-  pub bytes : List ℕ
-  pub stays : writer.rest new ≡ writer.rest old
-  pub holds : Appends (writer.contents old) (writer.contents new) bytes
-
-went : {W : Type 0} (writer : WriteOf W) (bytes : List ℕ) (old new : W) → GoesTo writer bytes old new
-    → Front writer old new
-went writer bytes old new h = record { bytes = bytes; stays = h.stays; holds = h.holds }
-
-stopped : {W : Type 0} (writer : WriteOf W) (bytes : List ℕ) (taken : ℕ) (old new : W)
-    → StopsIn writer bytes 0 taken old new → Front writer old new
-stopped writer bytes taken old new h = record { bytes = h.front; stays = h.stays; holds = h.holds }
 
 pub ahead_front : {W : Type 0} (writer : WriteOf W) (old new : W) (fault : FilingFault) (file : Taken)
     → IsAheadCopy writer old new (Err fault) file → Front writer old new

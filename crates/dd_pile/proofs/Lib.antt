@@ -2,10 +2,9 @@ mod Answered
 mod Counted
 mod FilesRead
 mod Fronts
-mod Kept
 mod KnownAhead
 mod ListLast
-pub mod OnePaths
 mod PilePaths
+mod Reasons
 mod Refused
 mod StagedCopies

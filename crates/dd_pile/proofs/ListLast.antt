@@ -11,8 +11,8 @@ use Rattle.dd_files.specs.Files.{Held, ended, published, stored}
 use Rattle.dd_files.specs.Keeping.{Adds, IfSaid, IsFree}
 use Rattle.dd_files.specs.PowerCuts.{IsAllStored}
 use Rattle.dd_filing.specs.declared.source_copies.SourceCopy.{SourceCopy}
-use Rattle.dd_pile.proofs.Kept.{said_both, said_so}
-use Rattle.dd_pile.proofs.OnePaths.{one_path}
+use Rattle.dd_files.proofs.SaidFiles.{said_both, said_so}
+use Rattle.dd_files.proofs.OnePaths.{one_path}
 use Rattle.dd_pile.proofs.PilePaths.{list_apart}
 use Rattle.dd_pile.specs.Copies.{WritesCopy}
 use Rattle.dd_pile.specs.Last.{HaveEnded, MakesListLast}

@@ -4,7 +4,7 @@ use Rattle.std.proofs.lemmas.List.{length-append, length-replicate}
 use Rattle.std.specs.Fmt.{char_count, padded_integral, format_spec, styled_decimal}
 use Rattle.std.specs.Prelude.{codes, decimal, replicate}
 use Rattle.dd_files.specs.Paths.{IsPathIn}
-use Rattle.dd_pile.proofs.OnePaths.{one_name}
+use Rattle.dd_files.proofs.OnePaths.{one_name}
 use Rattle.dd_pile.specs.Paths.{IsCopyOfPile, IsListPath, copy_name, digits_at_least, folder_name}
 
 -- a name after its folder

@@ -14,7 +14,7 @@ use Rattle.dd_filing.specs.declared.source_copies.SourceCopy.{SourceCopy}
 use Rattle.dd_staged.specs.Sources.{Source, WasRead, source_view}
 use Rattle.dd_staged.specs.Stages.{stage_text}
 use Rattle.dd_staged.specs.declared.staged.Staged.{Staged}
-use Rattle.dd_pile.proofs.Kept.{said_both, said_change}
+use Rattle.dd_files.proofs.SaidFiles.{said_both, said_by}
 use Rattle.dd_pile.proofs.ListLast.{list_stored}
 use Rattle.dd_pile.specs.Copies.{IsCopyOf, WritesCopy}
 use Rattle.dd_files.specs.Keeping.{Adds, IfSaid, IsFree, Keeps, KeepsAll}
@@ -175,7 +175,7 @@ pub copies_stored : (pile : List ℕ) (sources : List StageSource) (list : List 
     → IfSaid (CopiesStand pile sources list) a b → c ≡ option_map stored b → IfSaid (CopiesStand pile sources list) a c
 copies_stored pile sources list a b c before safe =
     let Same = λ (old new : Held). new ≡ stored old in
-    let same : IfSaid Same b c = said_change Same stored b c safe (λ held told. refl) in
+    let same : IfSaid Same b c = said_by Same stored b c safe (λ held told. refl) in
     said_both (CopiesStand pile sources list) Same (CopiesStand pile sources list) a b c
     (λ old mid new stand is.
     let kept : KeepsAll mid (stored mid) = record { stays = λ path bytes stood. stood } in

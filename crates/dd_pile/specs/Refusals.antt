@@ -1,9 +1,11 @@
 -- What a refusal is of.
-use Rattle.std.specs.Prelude.{◌≡◌, ℕ}
+use Rattle.std.specs.Prelude.{◌≡◌, ◌⊎◌, ℕ}
+use Rattle.dd_elem.specs.declared.device.Read.{Ghosts as ReadOf}
+use Rattle.dd_files.specs.Reasons.{HasCounted, HasFailedReader}
 use Rattle.dd_pile.specs.declared.refusal.StageRefusal.{StageRefusal}
 use Rattle.dd_pile.specs.declared.refusal.StageRefusal.TheVariants.{Absent, CopyUnmade, CopyUnsent, FolderUnmade}
 use Rattle.dd_pile.specs.declared.refusal.StageRefusal.TheVariants.{ListTooLarge, ListUnmade, ListUnsent, Memory}
-use Rattle.dd_pile.specs.declared.refusal.StageRefusal.TheVariants.{Unread, Unstored}
+use Rattle.dd_pile.specs.declared.refusal.StageRefusal.TheVariants.{PileUnmade, Unread, Unstored}
 
 -- the refusal names a source of which this is so, or none
 abbrev pub Names : (ℕ → Type 0) → StageRefusal → Type 0
@@ -32,3 +34,18 @@ IsOfList ListUnmade = Unit {0}
 IsOfList ListUnsent = Unit {0}
 IsOfList Memory = Unit {0}
 IsOfList refusal = ⊥
+
+-- What speaks for a refusal: the files have refused a call, a read of one of their readers has failed, or a write to
+-- them.
+abbrev pub IsDueTo : {R : Type 0} → ReadOf R → ℕ → ℕ → StageRefusal → Type 0
+IsDueTo reads refusals failures (Absent at) = HasCounted refusals
+IsDueTo reads refusals failures (Unread at) = HasFailedReader reads
+IsDueTo reads refusals failures (CopyUnmade at) = HasCounted refusals
+IsDueTo reads refusals failures (FolderUnmade at) = HasCounted refusals
+IsDueTo reads refusals failures (CopyUnsent at) = HasCounted refusals ⊎ HasCounted failures
+IsDueTo reads refusals failures PileUnmade = HasCounted refusals
+IsDueTo reads refusals failures ListUnmade = HasCounted refusals
+IsDueTo reads refusals failures ListUnsent = HasCounted refusals ⊎ HasCounted failures
+IsDueTo reads refusals failures Unstored = HasCounted refusals
+IsDueTo reads refusals failures ListTooLarge = Unit {0}
+IsDueTo reads refusals failures Memory = Unit {0}

@@ -2,13 +2,15 @@
 
 ghost use Rattle.std.specs.Prelude.{◌≡◌, ◌+◌, ◌<◌, ◌^◌, ℕ, List, IfErr, IfOk, IsOk, option_map};
 ghost use Rattle.dd_files.specs.Files.{ended};
+ghost use Rattle.dd_files.specs.Reasons.{HasCounted, HasFailedReader};
+ghost use Rattle.dd_filing.specs.Ahead.{IsDue};
 ghost use Rattle.dd_filing.specs.declared.places.Ahead.TheVariants as known;
 ghost use Rattle.dd_pile.specs.Copies.{IsKnown, StartsCopy, WritesCopy};
 ghost use Rattle.dd_files.specs.Keeping.{Adds, IfSaid};
 ghost use Rattle.dd_pile.specs.Last.{HaveEnded};
 ghost use Rattle.dd_pile.specs.Paths.{IsCopyOfPile};
 ghost use Rattle.dd_pile.specs.Piles.{StagesOne};
-ghost use Rattle.dd_pile.specs.Refusals.{IsOfCopy};
+ghost use Rattle.dd_pile.specs.Refusals.{IsDueTo, IsOfCopy};
 ghost use Rattle.dd_staged.specs.Sources.{WasRead, source_view};
 
 use crate::paths::{FOLDER_COPIES, copy_path, folder_path};
@@ -37,6 +39,7 @@ pub(crate) fn stage_source<F: Files>(
 ) -> Result<Staged, StageRefusal>
     requires small { turn.now.at < 2 ^ 63 }
     requires known { IsKnown turn.now.source.path.now ahead (F.held files.old) }
+    requires due { IsDue (HasCounted (F.refusals files.old)) (HasFailedReader F.In.Read) ahead }
     ensures refusal { IfErr result (IsOfCopy turn.now.at) }
     ensures staged { IfOk result (λ staged.
         IfSaid (StagesOne turn.now.pile.now (turn.now.at + 1) turn.now.source (source_view staged))
@@ -45,6 +48,8 @@ pub(crate) fn stage_source<F: Files>(
     ensures named { IfOk result (λ staged. staged.name.items ≡ turn.now.source.name.now) }
     ensures read { IfOk result (λ staged. WasRead (source_view staged)) }
     ensures adds { IfSaid (Adds (IsCopyOfPile turn.now.pile.now)) (F.held files.old) (F.held files.new) }
+    ensures due { IfErr result (IsDueTo F.In.Read (F.refusals files.new) (F.Write.failures files.new)) }
+    ensures counts { IsOk result → HasCounted (F.refusals files.old) → HasCounted (F.refusals files.new) }
 {
     let copy = make_copy(alloc, turn, ahead, files)?;
     end_copy(turn.at, files)?;
@@ -63,11 +68,14 @@ fn make_copy<F: Files>(
 ) -> Result<SourceCopy, StageRefusal>
     requires small { turn.now.at < 2 ^ 63 }
     requires known { IsKnown turn.now.source.path.now ahead (F.held files.old) }
+    requires due { IsDue (HasCounted (F.refusals files.old)) (HasFailedReader F.In.Read) ahead }
     ensures refusal { IfErr result (IsOfCopy turn.now.at) }
     ensures written { IfOk result (λ copy.
         WritesCopy turn.now.pile.now (turn.now.at + 1) turn.now.source.path.now copy
         (F.held files.old) (F.held files.new)) }
     ensures adds { IfSaid (Adds (IsCopyOfPile turn.now.pile.now)) (F.held files.old) (F.held files.new) }
+    ensures due { IfErr result (IsDueTo F.In.Read (F.refusals files.new) (F.Write.failures files.new)) }
+    ensures counts { IsOk result → HasCounted (F.refusals files.old) → HasCounted (F.refusals files.new) }
 {
     match ahead {
         Ahead::File(file) => send_copy(alloc, turn, &file, files),
@@ -85,11 +93,15 @@ fn send_copy<F: Files>(
 ) -> Result<SourceCopy, StageRefusal>
     requires small { turn.now.at < 2 ^ 63 }
     requires known { IsKnown turn.now.source.path.now (known.File ahead.now) (F.held files.old) }
+    requires due { IsDue (HasCounted (F.refusals files.old)) (HasFailedReader F.In.Read)
+        (known.File ahead.now) }
     ensures refusal { IfErr result (IsOfCopy turn.now.at) }
     ensures written { IfOk result (λ copy.
         WritesCopy turn.now.pile.now (turn.now.at + 1) turn.now.source.path.now copy
         (F.held files.old) (F.held files.new)) }
     ensures adds { IfSaid (Adds (IsCopyOfPile turn.now.pile.now)) (F.held files.old) (F.held files.new) }
+    ensures due { IfErr result (IsDueTo F.In.Read (F.refusals files.new) (F.Write.failures files.new)) }
+    ensures counts { IsOk result → HasCounted (F.refusals files.old) → HasCounted (F.refusals files.new) }
 {
     start_copy(alloc, turn, files)?;
     match ahead.copy_source_to(files) {
@@ -110,6 +122,8 @@ fn stream_copy<F: Files>(
         WritesCopy turn.now.pile.now (turn.now.at + 1) turn.now.source.path.now copy
         (F.held files.old) (F.held files.new)) }
     ensures adds { IfSaid (Adds (IsCopyOfPile turn.now.pile.now)) (F.held files.old) (F.held files.new) }
+    ensures due { IfErr result (IsDueTo F.In.Read (F.refusals files.new) (F.Write.failures files.new)) }
+    ensures counts { IsOk result → HasCounted (F.refusals files.old) → HasCounted (F.refusals files.new) }
 {
     let Ok(mut reader) = files.source(turn.source.path) else {
         return Err(StageRefusal::Absent(turn.at));
@@ -128,6 +142,8 @@ fn start_copy<F: Files>(alloc: Global, turn: &Turn<'_>, files: &mut F) -> Result
     ensures started { IsOk result → StartsCopy turn.now.pile.now (turn.now.at + 1)
         (F.held files.old) (F.held files.new) }
     ensures adds { IfSaid (Adds (IsCopyOfPile turn.now.pile.now)) (F.held files.old) (F.held files.new) }
+    ensures due { IfErr result (IsDueTo F.In.Read (F.refusals files.new) (F.Write.failures files.new)) }
+    ensures counts { IsOk result → HasCounted (F.refusals files.old) → HasCounted (F.refusals files.new) }
 {
     make_folder(alloc, turn, files)?;
     let path = copy_path(alloc, turn.pile, turn.at + 1)?;
@@ -142,6 +158,8 @@ fn make_folder<F: Files>(alloc: Global, turn: &Turn<'_>, files: &mut F) -> Resul
     requires { turn.now.at < 2 ^ 63 }
     ensures refusal { IfErr result (IsOfCopy turn.now.at) }
     ensures kept { F.held files.new ≡ F.held files.old }
+    ensures due { IfErr result (IsDueTo F.In.Read (F.refusals files.new) (F.Write.failures files.new)) }
+    ensures counts { IsOk result → HasCounted (F.refusals files.old) → HasCounted (F.refusals files.new) }
 {
     let number = turn.at + 1;
     if turn.at != 0 && number % FOLDER_COPIES != 0 {
@@ -159,6 +177,8 @@ fn end_copy<F: Files>(at: usize, files: &mut F) -> Result<(), StageRefusal>
     ensures refusal { IfErr result (IsOfCopy at) }
     ensures ended { IsOk result → F.held files.new ≡ option_map ended (F.held files.old) }
     ensures adds { (pile : List ℕ) → IfSaid (Adds (IsCopyOfPile pile)) (F.held files.old) (F.held files.new) }
+    ensures due { IfErr result (IsDueTo F.In.Read (F.refusals files.new) (F.Write.failures files.new)) }
+    ensures counts { IsOk result → HasCounted (F.refusals files.old) → HasCounted (F.refusals files.new) }
 {
     if files.finish().is_err() {
         return Err(StageRefusal::CopyUnsent(at));
@@ -171,7 +191,10 @@ fn end_copy<F: Files>(at: usize, files: &mut F) -> Result<(), StageRefusal>
 
 /// Gives the refusal for a fault of the copy of the source with this number.
 fn refusal_of(fault: FilingFault, at: usize) -> StageRefusal
-    ensures { IsOfCopy at result }
+    ensures refusal { IsOfCopy at result }
+    ensures memory { fault ≡ FilingFault.Memory → result ≡ StageRefusal.Memory }
+    ensures unread { fault ≡ FilingFault.Unread → result ≡ StageRefusal.Unread at }
+    ensures unsent { fault ≡ FilingFault.Unsent → result ≡ StageRefusal.CopyUnsent at }
 {
     match fault {
         FilingFault::Memory => StageRefusal::Memory,

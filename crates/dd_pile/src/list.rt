@@ -6,10 +6,11 @@ ghost use Rattle.std.specs.List.{AllByRecursion};
 ghost use Rattle.dd_elem.specs.Device.{counted};
 ghost use Rattle.dd_files.specs.Files.{published};
 ghost use Rattle.dd_files.specs.Keeping.{Adds, IfSaid, IsFree};
+ghost use Rattle.dd_files.specs.Reasons.{HasFailedReader};
 ghost use Rattle.dd_pile.specs.Lists.{IfList};
 ghost use Rattle.dd_pile.specs.Paths.{IsListPath};
 ghost use Rattle.dd_pile.specs.Piles.{WritesList};
-ghost use Rattle.dd_pile.specs.Refusals.{IsOfList};
+ghost use Rattle.dd_pile.specs.Refusals.{IsDueTo, IsOfList};
 ghost use Rattle.dd_staged.specs.Refusals.{IsBadStage, sources_view};
 ghost use Rattle.dd_staged.specs.Sources.{WasRead, source_view};
 ghost use Rattle.dd_staged.specs.Stages.{IsStage, stage_text};
@@ -38,6 +39,7 @@ pub(crate) fn write_list<F: Files>(
     ensures stage { let sources = map source_view list.now
         in IsOk result → AllByRecursion WasRead sources → IsStage (stage_text sources) sources }
     ensures adds { IfSaid (Adds (IsListPath pile.now)) (F.held files.old) (F.held files.new) }
+    ensures due { IfErr result (IsDueTo F.In.Read (F.refusals files.new) (F.Write.failures files.new)) }
 {
     if stage_size(list).is_none() {
         return Err(StageRefusal::ListTooLarge);
@@ -58,6 +60,7 @@ fn make_list<F: Files>(path: &str, list: &[Staged], files: &mut F) -> Result<(),
         in IsOk result → AllByRecursion WasRead sources → IsStage (stage_text sources) sources }
     ensures adds { (pile : List ℕ) → IsListPath pile path.now
         → IfSaid (Adds (IsListPath pile)) (F.held files.old) (F.held files.new) }
+    ensures due { IfErr result (IsDueTo F.In.Read (F.refusals files.new) (F.Write.failures files.new)) }
 {
     match files.create(path) {
         Ok(()) => {}
@@ -93,6 +96,7 @@ pub fn read_pile<F: Files>(
     ensures unread { result ≡ Err PileFault.Unread → IfList pile.now (λ _. ⊤) (F.held files.old) }
     ensures worked { result ≢ Err PileFault.Absent → F.refusals files.new ≡ F.refusals files.old }
     ensures kept { F.held files.new ≡ F.held files.old }
+    ensures failed { result ≡ Err PileFault.Unread → HasFailedReader F.In.Read }
 {
     let text = list_bytes(alloc, pile, files)?;
     match read_stage(alloc, &text) {
@@ -113,6 +117,7 @@ fn list_bytes<F: Files>(alloc: Global, pile: &str, files: &mut F) -> Result<Vec<
     ensures unread { result ≡ Err PileFault.Unread → IfList pile.now (λ _. ⊤) (F.held files.old) }
     ensures worked { result ≢ Err PileFault.Absent → F.refusals files.new ≡ F.refusals files.old }
     ensures kept { F.held files.new ≡ F.held files.old }
+    ensures failed { result ≡ Err PileFault.Unread → HasFailedReader F.In.Read }
 {
     let path = list_path(alloc, pile)?;
     let Ok(mut reader) = files.exact_file(path.as_str()) else {

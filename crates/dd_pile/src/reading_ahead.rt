@@ -1,6 +1,8 @@
 //! Sources that are read before their turn, so that several are digested at once.
 
 ghost use Rattle.std.specs.Prelude.{◌≡◌, ◌<◌, length};
+ghost use Rattle.dd_files.specs.Reasons.{HasCounted, HasFailedReader};
+ghost use Rattle.dd_filing.specs.Ahead.{AreDue};
 ghost use Rattle.dd_pile.specs.ReadingAhead.{KnowsNext, ReadsNext};
 
 use crate::source::StageSource;
@@ -16,9 +18,12 @@ pub(crate) fn read_ahead<F: Files>(
     ahead: &mut FilesAhead,
     files: &mut F,
 )
-    requires { KnowsNext sources.now ahead.old (F.held files.old) }
+    requires known { KnowsNext sources.now ahead.old (F.held files.old) }
+    requires due { AreDue (HasCounted (F.refusals files.old)) (HasFailedReader F.In.Read) ahead.old }
     ensures known { KnowsNext sources.now ahead.new (F.held files.new) }
     ensures kept { F.held files.new ≡ F.held files.old }
+    ensures due { AreDue (HasCounted (F.refusals files.new)) (HasFailedReader F.In.Read) ahead.new }
+    ensures counts { HasCounted (F.refusals files.old) → HasCounted (F.refusals files.new) }
 {
     if !ahead.is_past() {
         return;
@@ -35,9 +40,12 @@ pub(crate) fn read_ahead<F: Files>(
 }
 
 fn read_next<F: Files>(alloc: Global, path: &str, ahead: &mut FilesAhead, files: &mut F)
-    requires { length ahead.old.files < 8 }
+    requires room { length ahead.old.files < 8 }
+    requires due { AreDue (HasCounted (F.refusals files.old)) (HasFailedReader F.In.Read) ahead.old }
     ensures read { ReadsNext path.now (F.held files.new) ahead.old ahead.new }
     ensures kept { F.held files.new ≡ F.held files.old }
+    ensures due { AreDue (HasCounted (F.refusals files.new)) (HasFailedReader F.In.Read) ahead.new }
+    ensures counts { HasCounted (F.refusals files.old) → HasCounted (F.refusals files.new) }
 {
     match files.source(path) {
         Ok(reader) if files.said_size(&reader) > AHEAD_LIMIT => ahead.skip(),

@@ -7,6 +7,7 @@ ghost use Rattle.dd_files.specs.Keeping.{Adds, IfSaid};
 ghost use Rattle.dd_pile.specs.Last.{HaveEnded, MakesListLast};
 ghost use Rattle.dd_pile.specs.Paths.{IsCopyOfPile};
 ghost use Rattle.dd_pile.specs.Piles.{CopiesStand, HasNoRoom, IsRefusedInTurn, MakesPile};
+ghost use Rattle.dd_pile.specs.Refusals.{IsDueTo};
 ghost use Rattle.dd_staged.specs.Refusals.{sources_view};
 ghost use Rattle.dd_staged.specs.Sources.{WasRead};
 
@@ -41,6 +42,7 @@ pub fn stage_sources<F: Files + Progress>(
         → HasNoRoom pile.now sources.now (F.held files.old) (F.held files.new) }
     ensures made { IfOk result (λ sum. MakesPile pile.now sources.now sum
         (F.held files.old) (F.held files.new)) }
+    ensures due { IfErr result (IsDueTo F.In.Read (F.refusals files.new) (F.Write.failures files.new)) }
 
     // Also after an Err: what stood before is as it was, and the list is created once all copies are stored.
     ensures last { IfSaid (MakesListLast pile.now) (F.held files.old) (F.held files.new) }
@@ -74,6 +76,7 @@ fn copy_sources<F: Files + Progress>(
     ensures read { IfOk result (λ list. AllByRecursion WasRead (sources_view list)) }
     ensures adds { IfSaid (Adds (IsCopyOfPile pile.now)) (F.held files.old) (F.held files.new) }
     ensures ended { IsOk result → IfSaid HaveEnded (F.held files.old) (F.held files.new) }
+    ensures due { IfErr result (IsDueTo F.In.Read (F.refusals files.new) (F.Write.failures files.new)) }
 {
     let mut list = Vec::new(alloc);
     let mut ahead = FilesAhead::new(alloc);
@@ -97,6 +100,7 @@ fn store<F: Files>(files: &mut F) -> Result<(), StageRefusal>
     ensures fault { IfErr result (λ refusal. refusal ≡ StageRefusal.Unstored) }
     ensures kept { IsErr result → F.held files.new ≡ F.held files.old }
     ensures stored { IsOk result → F.held files.new ≡ option_map stored (F.held files.old) }
+    ensures due { IfErr result (IsDueTo F.In.Read (F.refusals files.new) (F.Write.failures files.new)) }
 {
     match files.store() {
         Ok(()) => Ok(()),

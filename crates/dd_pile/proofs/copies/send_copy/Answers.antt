@@ -1,9 +1,11 @@
 -- All bytes that were read ahead went to the copy, or a front of them.
 use Rattle.std.proofs.Common.{◌+◌}
 use Rattle.dd_files.proofs.KeptFiles.{said_grown}
+use Rattle.dd_files.specs.Reasons.{HasCounted}
 use Rattle.dd_pile.specs.Paths.{IsCopyOfPile}
 use Rattle.dd_pile.proofs.Answered.{copy_known, found_settled}
 use Rattle.dd_pile.proofs.Fronts.{ahead_front}
+use Rattle.dd_pile.proofs.Reasons.{ahead_due}
 use Rattle.dd_pile.proofs.copies.send_copy.Goals as goal
 
 pub returns-in-Ok-clause-written : goal.returns-in-Ok-clause-written
@@ -38,3 +40,9 @@ returns-in-Err-clause-adds g c =
     said_grown (IsCopyOfPile c.args.turn.now.pile.now) start.path front.bytes _ _ _
     (c.args.turn.now.at + 1, start.place) start.free start.started
     (g.met.F.Files.written_grows _ _ front.bytes front.stays front.holds)
+
+pub returns-in-Err-clause-due : goal.returns-in-Err-clause-due
+returns-in-Err-clause-due g c =
+    let of = c.refusal_of.ensures in
+    ahead_due g.F.In.Read g.F.Write _ _ _ (HasCounted (g.F.Files.refusals c.args.files.now)) c.in-Err.fault
+    c.args.ahead.now _ _ of.memory of.unread of.unsent c.requires.due c.in-Err.ensures

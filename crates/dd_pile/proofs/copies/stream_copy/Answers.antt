@@ -4,6 +4,7 @@ use Rattle.dd_files.proofs.KeptFiles.{said_grown}
 use Rattle.dd_pile.specs.Paths.{IsCopyOfPile}
 use Rattle.dd_pile.proofs.Answered.{copy_given, size_given}
 use Rattle.dd_pile.proofs.Fronts.{source_front}
+use Rattle.dd_pile.proofs.Reasons.{source_due}
 use Rattle.dd_pile.proofs.copies.stream_copy.Goals as goal
 
 pub returns-in-Ok-copy_source-clause-written : goal.returns-in-Ok-copy_source-clause-written
@@ -44,3 +45,9 @@ returns-clause-adds g c =
     (c.args.turn.now.at + 1, start.place) (rw c.in-Ok.ensures.kept at start.free)
     (rw c.in-Ok.ensures.kept at start.started)
     (g.met.F.Files.written_grows _ _ front.bytes front.stays front.holds)
+
+pub returns-clause-due : goal.returns-clause-due
+returns-clause-due g c =
+    let of = c.refusal_of.ensures in
+    source_due g.F.In.Read g.F.Write _ _ _ c.in-Err.fault _ c.in-Err.ensures.given _ _ _ _ _ of.memory of.unread
+    of.unsent c.in-Err.ensures.answered

@@ -2,6 +2,7 @@
 use Rattle.dd_files.proofs.KeptFiles.{held_published, said_ended, said_grown, said_is, said_then}
 use Rattle.dd_pile.proofs.Fronts.{list_front}
 use Rattle.dd_pile.specs.Paths.{IsListPath}
+use Rattle.dd_pile.proofs.Reasons.{list_due}
 use Rattle.dd_pile.proofs.list.make_list.Goals as goal
 
 pub returns-in-Ok-finish-clause-written : goal.returns-in-Ok-finish-clause-written
@@ -35,3 +36,8 @@ returns-in-Err-write_stage-clause-adds g c = λ pile place.
 
 pub returns-in-Err-clause-adds : goal.returns-in-Err-clause-adds
 returns-in-Err-clause-adds g c = λ pile place. said_is (IsListPath pile) _ _ (c.in-Err.ensures.call.kept cc)
+
+pub returns-in-Err-write_stage-clause-due : goal.returns-in-Err-write_stage-clause-due
+returns-in-Err-write_stage-clause-due g c =
+    list_due g.F.In.Read g.F.Write _ _ _ c.in-Err-write_stage.field-0 _
+    (c.in-Err-write_stage.ensures.sends c.requires).err

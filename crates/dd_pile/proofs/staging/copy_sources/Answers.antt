@@ -1,14 +1,18 @@
 -- One more source is staged.
-use Rattle.std.proofs.Common.{◌∙◌, map, rules}
+use Rattle.std.proofs.Common.{◌∙◌, ap, map, rules}
 use Rattle.std.proofs.lemmas.List.{length-map}
 use Rattle.dd_staged.specs.Sources.{source_view}
 use Rattle.dd_pile.specs.Piles.{StandsBefore}
 use Rattle.std.proofs.lemmas.Result.{err_from_is_err_and}
 use Rattle.dd_files.proofs.KeptFiles.{said_then}
-use Rattle.dd_pile.proofs.Kept.{said_keeps}
+use Rattle.dd_files.proofs.SaidFiles.{said_keeps}
+use Rattle.dd_files.specs.Reasons.{HasCounted, HasFailedReader}
+use Rattle.dd_filing.proofs.DueFiles.{due_next, due_none, due_since}
+use Rattle.dd_filing.specs.Ahead.{NextFiles}
 use Rattle.dd_pile.proofs.ListLast.{said_adds, said_ended_all, said_whole, said_whole_none, said_whole_then}
 use Rattle.dd_pile.specs.Paths.{IsCopyOfPile}
 use Rattle.dd_pile.proofs.KnownAhead.{next_known, passed_known, rest_known}
+use Rattle.dd_pile.proofs.Reasons.{same_counted}
 use Rattle.dd_pile.proofs.Refused.{named, not_large}
 use Rattle.dd_pile.proofs.StagedCopies.{each_since, names_more, pushed_more, read_more, stand_more}
 use Rattle.dd_pile.proofs.staging.copy_sources.Goals as goal
@@ -21,6 +25,8 @@ loop-at-init g c = record {
   names = search rules;
   read = search rules;
   known = search rules;
+  due = due_none (HasCounted (g.F.Files.refusals c.begin_step.new.self)) (HasFailedReader g.F.In.Read) _
+      c.new-ahead.ensures;
 }
 
 pub stage_source-requires-clause-known : goal.stage_source-requires-clause-known
@@ -28,6 +34,11 @@ stage_source-requires-clause-known g c =
     next_known c.args.sources.now c.loop-at.at _ c.read_ahead.new.ahead c.next.result _ c.loop-at-test.true
     c.next.ensures
     (rest_known c.args.sources.now c.loop-at.at c.read_ahead.new.ahead _ c.read_ahead.ensures.known)
+
+pub stage_source-requires-clause-due : goal.stage_source-requires-clause-due
+stage_source-requires-clause-due g c =
+    due_next (HasCounted (g.F.Files.refusals c.read_ahead.new.files)) (HasFailedReader g.F.In.Read)
+    c.read_ahead.new.ahead c.next.result c.next.ensures c.read_ahead.ensures.due
 
 pub returns-in_err-staged-clause-refusal : goal.returns-in_err-staged-clause-refusal
 returns-in_err-staged-clause-refusal g c =
@@ -85,6 +96,11 @@ loop-at-preserved g c =
           (passed_known c.args.sources.now c.loop-at.at c.read_ahead.new.ahead c.pass.new.self _ _ c.pass.ensures
           (said_keeps (IsCopyOfPile c.args.pile.now) _ _ c.stage_source.ensures.adds)
           (rest_known c.args.sources.now c.loop-at.at c.read_ahead.new.ahead _ c.read_ahead.ensures.known));
+      due = due_since (HasCounted (g.F.Files.refusals c.read_ahead.new.files))
+          (HasCounted (g.F.Files.refusals c.advance.new.self)) (HasFailedReader g.F.In.Read) c.read_ahead.new.ahead
+          c.pass.new.self (ap (λ (all : NextFiles). all.files) c.pass.ensures)
+          (λ counted. same_counted _ _ c.advance.ensures.refusals (c.in_ok-staged.ensures.counts (cc) counted))
+          c.read_ahead.ensures.due;
     }
 
 pub returns-clause-adds : goal.returns-clause-adds

@@ -5,6 +5,8 @@ use Rattle.dd_staged.specs.Refusals.{sources_view}
 use Rattle.dd_staged.specs.Sources.{WasRead}
 use Rattle.dd_files.proofs.AddedWhole.{AddsWhole}
 use Rattle.dd_files.specs.Keeping.{IfSaid}
+use Rattle.dd_files.specs.Reasons.{HasCounted, HasFailedReader}
+use Rattle.dd_filing.specs.Ahead.{AreDue}
 use Rattle.dd_pile.specs.Paths.{IsCopyOfPile}
 use Rattle.dd_pile.specs.Piles.{CopiesStand}
 use Rattle.dd_pile.specs.ReadingAhead.{KnowsNext}
@@ -19,4 +21,5 @@ invariant-loop-at g l = record {
   names : map (λ listed. listed.name) (sources_view l.list) ≡ map (λ source. source.name.now) (take l.at l.sources);
   read : AllByRecursion WasRead (sources_view l.list);
   known : KnowsNext (drop l.at l.sources) l.ahead (g.F.Files.held l.files);
+  due : AreDue (HasCounted (g.F.Files.refusals l.files)) (HasFailedReader g.F.In.Read) l.ahead;
 }
