@@ -6,9 +6,10 @@ use Rattle.dd_engine.specs.declared.choice.Choice.{Choice}
 use Rattle.dd_engine.specs.declared.noted_merge.NotedMerge.{NotedMerge}
 use Rattle.dd_engine.specs.MergeNotes.{NotesSets}
 use Rattle.dd_files.specs.Files.{Held}
-use Rattle.dicomdir.proofs.AllStanding.{stands_whole}
+use Rattle.dd_file_set.proofs.AllStanding.{stands_whole}
 use Rattle.dicomdir.specs.Indexes.{limits_of}
-use Rattle.dicomdir.specs.Made.{IsMemberPath, MakesFileSet}
+use Rattle.dd_file_set.specs.Made.{MakesFileSet}
+use Rattle.dicomdir.specs.Origins.{IsMemberPath}
 use Rattle.dicomdir.specs.Merges.{AreDirectories, DoneMerges, HasDirectory}
 
 -- what is so where a command has made its file-set is so where it is done

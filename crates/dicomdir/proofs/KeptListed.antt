@@ -36,9 +36,9 @@ use Rattle.dicomdir.specs.Headline.{Lists, Makes, Names, OneFileSays, OneListSay
 use Rattle.dicomdir.specs.Headline.{SaysVersion, Withdraws, folder_for}
 use Rattle.dicomdir.specs.Lines.{IndexesRows, MergesRows, PublishesRows, WithdrawsRows, choice_of}
 use Rattle.dicomdir.specs.ListedNames.{AreSources, parts}
-use Rattle.dicomdir.specs.Made.{RealisesPlan, SaysPlan}
+use Rattle.dd_file_set.specs.Made.{RealisesPlan, SaysPlan}
 use Rattle.dicomdir.specs.Publishes.{answers_in}
-use Rattle.dicomdir.specs.Standing.{StandsWhole}
+use Rattle.dd_file_set.specs.Standing.{StandsWhole}
 
 -- ---- the directory of what was taken
 

@@ -1,5 +1,4 @@
 mod AddingUp
-mod AllStanding
 mod BadNames
 mod BadUids
 mod CountLines
@@ -7,21 +6,16 @@ mod DryRuns
 mod EmptyWords
 mod EngineMade
 mod FirstPaths
-mod Fronts
 mod HavingPaths
-mod ImagePlaces
-mod ImagesMade
 mod InPiles
 mod Inspected
 mod InspectedLines
 mod KeptListed
-mod KnownAhead
 mod LinesLast
 mod LinesMade
 mod LinesRefused
 mod LinesSaid
 mod LookedUp
-mod MadeInOrder
 mod MadeLast
 mod Masking
 mod NameParts
@@ -40,4 +34,3 @@ mod SaidLines
 mod SetAgain
 mod SetsOfParts
 mod StagedSources
-mod Unlinked

@@ -15,7 +15,7 @@ use Rattle.dicomdir.proofs.LinesMade.{from_is}
 use Rattle.dicomdir.proofs.MadeLast.{directory_none, keeps_same, list_none}
 use Rattle.dicomdir.specs.From.{from_text, looked_up}
 use Rattle.dicomdir.specs.Last.{MakesLastBy, MakesLastLine, MakesLastOf, StagesListLast}
-use Rattle.dicomdir.specs.Left.{MakesDirectoryLast}
+use Rattle.dd_file_set.specs.Left.{MakesDirectoryLast}
 
 -- ---- the command
 

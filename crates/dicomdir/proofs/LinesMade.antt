@@ -19,7 +19,7 @@ use Rattle.dicomdir.specs.ListedNames.{AreSources}
 use Rattle.dicomdir.specs.Inspecting.{style_by}
 use Rattle.dicomdir.specs.Lines.{IndexesLine, IsIndex, IsMerge, IsPublish, IsStage, IsWithdraw, MergesLine}
 use Rattle.dicomdir.specs.Lines.{PublishesLine, StagesLine, WithdrawsLine, list_in}
-use Rattle.dicomdir.specs.Made.{IsDone}
+use Rattle.dicomdir.specs.Done.{IsDone}
 use Rattle.dicomdir.specs.Merges.{DoneMerges, MakesMerge}
 use Rattle.dicomdir.specs.Names.{choice_by}
 use Rattle.dicomdir.specs.Publishes.{DonePublishes, MakesPublish}

@@ -23,7 +23,7 @@ use Rattle.dicomdir.specs.Inspecting.{style_by}
 use Rattle.dicomdir.specs.ListedNames.{AreSources}
 use Rattle.dicomdir.specs.Lines.{IndexSays, IsIndex, IsMerge, IsPublish, IsWithdraw, MergeSays, PublishSays}
 use Rattle.dicomdir.specs.Lines.{SaysOfPiles, SaysOfSet, SaysOfSets, SaysOfSources, WithdrawSays, choice_of}
-use Rattle.dicomdir.specs.Made.{IsDone}
+use Rattle.dicomdir.specs.Done.{IsDone}
 use Rattle.dicomdir.specs.Names.{choice_by}
 use Rattle.dicomdir.specs.Prints.{PrintsIndex, PrintsMerge}
 use Rattle.dicomdir.specs.Publishes.{PrintsPublish}

@@ -1,9 +1,9 @@
 -- Where nothing is made, nothing is made too early.
-use Rattle.std.proofs.Common.{◌≡◌, ℕ, List, [], Option, None, Some, inl, refl, subst, sym}
-use Rattle.std.proofs.lemmas.List.{append-nil}
+use Rattle.std.proofs.Common.{◌≡◌, ℕ, List, Option, inl, refl, subst}
 use Rattle.std.specs.Prelude.{IsSome}
-use Rattle.dd_files.proofs.CallLists.{none_made}
-use Rattle.dd_files.proofs.CutPower.{safe_at_cuts}
+use Rattle.dd_files.proofs.CutPower.{others_alone, safe_at_cuts}
+use Rattle.dd_files.proofs.KeptFiles.{adds_none}
+use Rattle.dd_files.proofs.SaidFiles.{said_same, said_so}
 use Rattle.dd_files.specs.Files.{Held}
 use Rattle.dd_files.specs.Keeping.{IfSaid, KeepsAll}
 use Rattle.dd_files.specs.PowerCuts.{MakesLast}
@@ -11,18 +11,12 @@ use Rattle.dd_line.specs.declared.request.Request.{Request}
 use Rattle.dd_line.specs.declared.request.Request.TheVariants.{Check, Index, List as ListSet, Merge, Publish, Stage, Withdraw}
 use Rattle.dd_pile.specs.Last.{MakesListLast}
 use Rattle.dicomdir.specs.Last.{MakesLastOf, StagesListLast}
-use Rattle.dicomdir.specs.Left.{MakesDirectoryLast}
+use Rattle.dd_file_set.specs.Left.{MakesDirectoryLast}
 
 -- ---- no call was asked for
 
 none_last : (path : List ℕ) (held : Held) → MakesLast path held held
-none_last path held = record {
-  stays = record { stays = λ other bytes is. is };
-  calls = [];
-  asked = sym (append-nil held.calls);
-  others = λ other free unmade. free;
-  last = λ first later is before other apart made. absurd (none_made other made);
-}
+none_last path held = others_alone (λ other. ⊥) path held held (λ none. none) (adds_none (λ other. ⊥) held)
 
 pub keeps_same : (held : Held) → KeepsAll held held
 keeps_same held = record { stays = λ path bytes is. is }
@@ -52,27 +46,17 @@ request_none (ListSet x) held = keeps_same held
 
 -- ---- the files hold what they held
 
-same_files : (Holds : Held → Held → Type 0) → ((held : Held) → Holds held held) → (a b : Option Held) → b ≡ a
-    → IfSaid Holds a b
-same_files Holds alike None b same = same
-same_files Holds alike (Some held) b same =
-    subst (λ (x : Option Held). IfSaid Holds (Some held) x) (sym same) (alike held)
-
 pub same_directory : (folder : List ℕ) (a b : Option Held) → b ≡ a → IfSaid (MakesDirectoryLast folder) a b
-same_directory folder a b same = same_files (MakesDirectoryLast folder) (directory_none folder) a b same
+same_directory folder a b same = said_same (MakesDirectoryLast folder) (directory_none folder) a b same
 
 pub same_list : (pile : List ℕ) (a b : Option Held) → b ≡ a → IfSaid (StagesListLast pile) a b
-same_list pile a b same = same_files (StagesListLast pile) (list_none pile) a b same
+same_list pile a b same = said_same (StagesListLast pile) (list_none pile) a b same
 
 pub same_request : (r : Request) (a b : Option Held) → b ≡ a → IfSaid (MakesLastOf r) a b
-same_request r a b same = same_files (MakesLastOf r) (request_none r) a b same
+same_request r a b same = said_same (MakesLastOf r) (request_none r) a b same
 
 -- ---- a pile
 
 pub list_cuts : (pile : List ℕ) (a b : Option Held) → IfSaid (MakesListLast pile) a b → IfSaid (StagesListLast pile) a b
-list_cuts pile None b last = last
-list_cuts pile (Some old) None last = last
-list_cuts pile (Some old) (Some new) last = record {
-  last = last;
-  cuts = λ path place. safe_at_cuts path old new (last path place);
-}
+list_cuts pile a b made = said_so (MakesListLast pile) (StagesListLast pile) a b
+    (λ old new last. record { last = last; cuts = λ path place. safe_at_cuts path old new (last path place) }) made

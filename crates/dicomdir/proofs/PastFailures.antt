@@ -24,12 +24,13 @@ use Rattle.dd_keys.specs.declared.fault.KeyFault.TheVariants as keys
 use Rattle.dicomdir.specs.FileSupply.{contents_by}
 use Rattle.dicomdir.specs.ListedNames.{HavePaths}
 use Rattle.dicomdir.proofs.BadNames.{answers_name}
-use Rattle.dicomdir.proofs.AllStanding.{stands_whole}
+use Rattle.dd_file_set.proofs.AllStanding.{stands_whole}
 use Rattle.dicomdir.proofs.PickedSources.{picks_named}
-use Rattle.dicomdir.proofs.Unlinked.{set_by}
+use Rattle.dd_file_set.proofs.Unlinked.{set_by}
 use Rattle.dicomdir.specs.Indexes.{AnswersName, AreRead, Indexes, IsIndexStatus, IsRead, MakesIndex, NoneFailed, has_failed, is_unread}
 use Rattle.dicomdir.specs.Indexes.{limits_of, most_of_source, status_past}
-use Rattle.dicomdir.specs.Made.{IsPathAt, MakesFileSet}
+use Rattle.dd_file_set.specs.Made.{MakesFileSet}
+use Rattle.dicomdir.specs.Origins.{IsPathAt}
 
 -- ---- readings of either kind
 

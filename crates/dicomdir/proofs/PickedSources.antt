@@ -14,10 +14,10 @@ use Rattle.dd_files.specs.Files.{Held}
 use Rattle.dd_layout.specs.declared.record.PlanRecord.{PlanRecord}
 use Rattle.dd_version.specs.declared.parts.Parts.{Parts}
 use Rattle.dicomdir.proofs.SaidByFiles.{no_version}
-use Rattle.dicomdir.proofs.Unlinked.{SaysToo}
+use Rattle.dd_file_set.proofs.Unlinked.{SaysToo}
 use Rattle.dicomdir.specs.Indexes.{AnswersName, AreRead, IsRead}
 use Rattle.dicomdir.specs.ListedNames.{HavePaths}
-use Rattle.dicomdir.specs.Made.{IsPathAt}
+use Rattle.dicomdir.specs.Origins.{IsPathAt}
 
 -- ---- what is picked
 

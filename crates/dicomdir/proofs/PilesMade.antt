@@ -1,7 +1,7 @@
 -- What was made of piles, and what was printed.
 use Rattle.std.proofs.Common.{◌≡◌, ◌∙◌, ◌+◌, ◌<◌, ℕ, List, [], ◌∷◌, Bool, Option, Result, Ok, Err, IfOk, IsOk, ap, ap₂, arith}
 use Rattle.std.proofs.Common.{get_or, length, refl, string_bytes, subst, sym, true}
-use Rattle.std.proofs.lemmas.List.{length-map}
+use Rattle.std.proofs.lemmas.List.{get_or_default, length-map}
 use Rattle.std.proofs.lemmas.List.Elements.{All-weaker}
 use Rattle.std.proofs.lemmas.List.Sums.{sum_by-cons}
 use Rattle.std.proofs.Math.ListN.{get_or-map}
@@ -19,15 +19,15 @@ use Rattle.dd_line.specs.Line.{words_of}
 use Rattle.dd_lines.specs.Text.{TakesText}
 use Rattle.dd_pile.specs.Paths.{IsCopyPath}
 use Rattle.dd_staged.specs.Sources.{Source}
-use Rattle.dicomdir.proofs.AllStanding.{stands_whole}
+use Rattle.dd_file_set.proofs.AllStanding.{stands_whole}
 use Rattle.dicomdir.proofs.InPiles.{in_some_pile, pile_within}
 use Rattle.dicomdir.proofs.Piling.{lists_count}
 use Rattle.dicomdir.proofs.SaidLines.{takes_both}
-use Rattle.dicomdir.proofs.Unlinked.{set_each}
+use Rattle.dd_file_set.proofs.Unlinked.{set_each}
 use Rattle.dicomdir.specs.Indexes.{limits_of}
-use Rattle.dicomdir.specs.Made.{MakesFileSet}
+use Rattle.dd_file_set.specs.Made.{MakesFileSet}
 use Rattle.dicomdir.specs.Noted.{IsNotedIndex}
-use Rattle.dicomdir.specs.Publishes.{DonePublishes, HasPiled, HasPlace, IsCopyAt, IsCopyOf, IsPiled, MayLinkAt, MayLinkCopy, PrintsPublish}
+use Rattle.dicomdir.specs.Publishes.{DonePublishes, HasPiled, IsCopyAt, IsCopyOf, IsPiled, MayLinkAt, MayLinkCopy, PrintsPublish}
 use Rattle.dicomdir.specs.Publishes.{answers_in, image_bytes, last_line, pile_at, placed_bytes, size_at, sizes_in}
 use Rattle.dicomdir.specs.Publishes.{sources_in}
 use Rattle.dicomdir.specs.Said.{SaysNotes}
@@ -47,30 +47,34 @@ of_names piles files piled Is (lists, are, is) h =
     ∙ length-map piled.names.items (λ name. string_bytes name))
     (h (answers_in lists) is.found)
 
-has_place : (count : ℕ) (lists : List (List Source)) (piled : Piled) (at : ℕ) → length lists ≡ count
-    → IsPiled lists piled → at < length (answers_in lists) → HasPlace count piled.places.items at
-has_place count lists piled at many is within =
-    let sources = sources_in lists in
-    let among : at < length sources = omega (arith, within, length-map sources (λ (source : Source). source.found)) in
-    let (pile, number, in_pile) = in_some_pile lists at among in
-    record {
-      within = omega (arith, among, is.places.count);
-      pile = omega (
-        arith,
-        many,
-        pile_within lists at pile number in_pile,
-        (is.places.each at pile number in_pile).in_pile,
-      );
-    }
+in_a_pile : (count : ℕ) (lists : List (List Source)) (piled : Piled) (at : ℕ) → length lists ≡ count
+    → IsPiled lists piled → at < length piled.places.items → pile_at piled.places.items at < count
+in_a_pile count lists piled at many is within =
+    let (pile, number, in_pile) = in_some_pile lists at (omega (arith, within, is.places.count)) in
+    omega (
+      arith,
+      many,
+      pile_within lists at pile number in_pile,
+      (is.places.each at pile number in_pile).in_pile,
+    )
+
+-- each place is in one of the piles
+pub all_in_piles : (piles : List (List ℕ)) (count : ℕ) (files : Option Held) (piled : Piled) → length piles ≡ count
+    → HasPiled piles files piled → All (λ place. place.pile < count) piled.places.items
+all_in_piles piles count files piled many (lists, are, is) = λ at d within.
+    subst (λ (place : Place). place.pile < count)
+    (get_or_default piled.places.items at (record { pile = 0; number = 0; size = 0 }) d within)
+    (in_a_pile count lists piled at (lists_count piles lists files are ∙ many) is within)
 
 -- each number of a source has its place
-pub have_places : (piles : List (List ℕ)) (count : ℕ) (files : Option Held) (piled : Piled) (picks : List ℕ)
-    → length piles ≡ count → HasPiled piles files piled
+pub have_places : (piles : List (List ℕ)) (files : Option Held) (piled : Piled) (picks : List ℕ)
+    → HasPiled piles files piled
     → ((answers : List Answer) → HasFound answers piled.found → All (λ at. at < length answers) picks)
-    → All (HasPlace count piled.places.items) picks
-have_places piles count files piled picks many (lists, are, is) within =
-    All-weaker (λ at. at < length (answers_in lists)) (HasPlace count piled.places.items)
-    (λ at. has_place count lists piled at (lists_count piles lists files are ∙ many) is) picks
+    → All (λ at. at < length piled.places.items) picks
+have_places piles files piled picks (lists, are, is) within =
+    All-weaker (λ at. at < length (answers_in lists)) (λ at. at < length piled.places.items)
+    (λ at among.
+    omega (arith, among, is.places.count, length-map (sources_in lists) (λ (source : Source). source.found))) picks
     (within (answers_in lists) is.found)
 
 -- ---- copies

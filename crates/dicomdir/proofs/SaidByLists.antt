@@ -7,7 +7,7 @@ use Rattle.clap.specs.Words.{Text}
 use Rattle.dd_catalogue.proofs.Members.{Member, contained, member_of}
 use Rattle.dd_engine.specs.Indexing.{Answer, accepted, accepted_from, versions_of}
 use Rattle.dd_files.specs.Files.{Held}
-use Rattle.dd_pile.proofs.OnePaths.{one_path}
+use Rattle.dd_files.proofs.OnePaths.{one_path}
 use Rattle.dd_pile.specs.Lists.{HasList}
 use Rattle.dd_staged.specs.Sources.{Source}
 use Rattle.dd_staged.specs.Stages.{IsStage}

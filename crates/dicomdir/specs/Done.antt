@@ -1,6 +1,6 @@
 -- What a command that makes a file-set says at its end: what it made, or with `--dry-run` what it would make. That is a
 -- line of words, or a JSON object (RFC 8259).
-use Rattle.std.specs.Prelude.{ℕ, List, [], ◌∷◌, ◌++◌, codes}
+use Rattle.std.specs.Prelude.{◌≡◌, ◌⊎◌, ℕ, List, [], ◌∷◌, ◌++◌, codes}
 use Rattle.std.specs.Fmt.{decimal}
 use Rattle.std.specs.List.{concat}
 use Rattle.dd_json.specs.declared.value.Style.{Style}
@@ -49,3 +49,9 @@ images_json instances bytes images = object_of (
 abbrev pub images_text : Style → ℕ → ℕ → ℕ → List ℕ
 images_text Text instances bytes images = images_words instances bytes images
 images_text Json instances bytes images = json_line (images_json instances bytes images)
+
+-- ---- the status
+
+-- the command did its work, whatever it found
+abbrev pub IsDone : ℕ → Type 0
+IsDone status = (status ≡ 0) ⊎ (status ≡ 3)

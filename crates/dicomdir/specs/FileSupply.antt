@@ -1,14 +1,10 @@
 -- Files as sources: what they hold, and their counts.
-use Rattle.std.specs.Prelude.{◌≡◌, ℕ, Bool, List, [], Option, Some, IfSome, if◌then◌else◌, nat_eq, option_map}
+use Rattle.std.specs.Prelude.{ℕ, Bool, List, [], Option, Some, if◌then◌else◌, nat_eq, option_map}
 use Rattle.std.specs.Prelude.{slice_get, slice_index_or, unwrap_or}
 use Rattle.std.specs.List.{list_any}
 use Rattle.std.specs.Option.{option_and_then}
 use Rattle.dd_files.specs.Files.{Held}
 use Rattle.dicomdir.specs.declared.source_counts.SourceCounts.{SourceCounts}
-
--- the file at the path has these bytes, where the files say what they hold
-abbrev pub HasBytes : List ℕ → List ℕ → Option Held → Type 0
-HasBytes path bytes files = IfSome files (λ held. held.bytes_at path ≡ Some bytes)
 
 -- the bytes of the file at the path; where none stands there, it counts as an empty file, which has no version
 abbrev pub contents_at : Option Held → List ℕ → Option (List ℕ)

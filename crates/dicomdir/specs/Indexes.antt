@@ -18,8 +18,8 @@ use Rattle.dd_keys.specs.declared.fault.KeyFault.{KeyFault}
 use Rattle.dd_keys.specs.declared.fault.KeyFault.TheVariants.{Read}
 use Rattle.dd_layout.specs.Limits.{Limits}
 use Rattle.dicomdir.specs.FileSupply.{contents_at}
-use Rattle.dicomdir.specs.Made.{IsPathAt}
-use Rattle.dicomdir.specs.Standing.{StandsWhole}
+use Rattle.dicomdir.specs.Origins.{IsPathAt}
+use Rattle.dd_file_set.specs.Standing.{StandsWhole}
 
 -- the most bytes of a source
 abbrev pub most_of_source : ℕ

@@ -13,7 +13,7 @@ use Rattle.dd_line.specs.declared.request.Request.TheVariants.{Check, Index, Lis
 use Rattle.dd_pile.specs.Last.{MakesListLast}
 use Rattle.dd_pile.specs.Paths.{IsListPath}
 use Rattle.dicomdir.specs.From.{from_text, looked_up}
-use Rattle.dicomdir.specs.Left.{MakesDirectoryLast}
+use Rattle.dd_file_set.specs.Left.{MakesDirectoryLast}
 use Rattle.dicomdir.specs.Lines.{from_in}
 
 -- What stood before is as it was. The list of this pile is made once all copies are stored, so wherever the power is cut

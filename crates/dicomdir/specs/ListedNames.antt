@@ -8,7 +8,7 @@ use Rattle.clap.specs.Words.{Text}
 use Rattle.dd_files.specs.Files.{Held}
 use Rattle.dd_line.specs.declared.request.Request.{Request}
 use Rattle.dd_line.specs.declared.request.Request.TheVariants.{Check, Index, List as ListSet, Merge, Publish, Stage, Withdraw}
-use Rattle.dicomdir.specs.FileSupply.{HasBytes}
+use Rattle.dd_file_set.specs.Made.{HasBytes}
 use Rattle.dicomdir.specs.From.{from_text, looked_up_list}
 
 -- the parts of a list: a zero byte ends each, but the last one may end with the list

@@ -6,10 +6,10 @@ use Rattle.dd_engine.specs.Merging.{AreOwn, IsMerged, SetListing}
 use Rattle.dd_files.specs.Files.{Held}
 use Rattle.dd_files.specs.Paths.{IsPathIn}
 use Rattle.dd_files.specs.Keeping.{IfSaid}
-use Rattle.dicomdir.specs.FileSupply.{HasBytes}
+use Rattle.dd_file_set.specs.Made.{HasBytes}
 use Rattle.dicomdir.specs.Indexes.{limits_of}
-use Rattle.dicomdir.specs.Made.{IsMemberPath}
-use Rattle.dicomdir.specs.Standing.{StandsWhole}
+use Rattle.dicomdir.specs.Origins.{IsMemberPath}
+use Rattle.dd_file_set.specs.Standing.{StandsWhole}
 
 -- the directory of the file-set in the folder (PS3.10 section 8.6) has these bytes
 pub record HasDirectory (folder bytes : List ℕ) (files : Option Held) : Type 0 where

@@ -27,7 +27,7 @@ use Rattle.dicomdir.specs.Indexes.{limits_of}
 use Rattle.dicomdir.specs.Noted.{IsNotedIndex}
 use Rattle.dicomdir.specs.Prints.{size_of}
 use Rattle.dicomdir.specs.Said.{SaysNotes}
-use Rattle.dicomdir.specs.Standing.{StandsWhole}
+use Rattle.dd_file_set.specs.Standing.{StandsWhole}
 use Rattle.dicomdir.specs.declared.making.Ending.TheVariants.{Done}
 use Rattle.dicomdir.specs.declared.piles.Place.{Place}
 use Rattle.dicomdir.specs.declared.piles.Piled.{Piled}
@@ -87,11 +87,6 @@ place_at places at = slice_index_or places at (record { pile = 0; number = 0; si
 
 abbrev pub pile_at : List Place → ℕ → ℕ
 pile_at places at = (place_at places at).pile
-
--- it is there, and its pile is one of this number of piles
-pub record HasPlace (piles : ℕ) (places : List Place) (at : ℕ) : Type 0 where
-  pub within : at < length places
-  pub pile : pile_at places at < piles
 
 -- it is there, and the copy at it has this path
 pub record IsCopyAt (piles : List (List ℕ)) (places : List Place) (at : ℕ) (path : List ℕ) : Type 0 where

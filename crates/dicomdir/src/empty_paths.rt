@@ -1,8 +1,8 @@
 ghost use Rattle.std.specs.Prelude.{◌≡◌, ◌<◌, ℕ, [], None, Some, IfSome, length};
 ghost use Rattle.dicomdir.specs.EmptyPaths.{IsEmptyAt, IsFirstEmpty};
-ghost use Rattle.dicomdir.specs.Refusal.{IsOfWork};
+ghost use Rattle.dd_file_set.specs.Refusal.{IsOfWork};
 
-use crate::refusal::{ProgramFault, Refusal, Subject};
+use dd_file_set::{ProgramFault, Refusal, Subject};
 
 pub(crate) fn first_empty(paths: &[String]) -> Option<usize>
     ensures empty { IfSome result (IsEmptyAt paths.now) }

@@ -1,9 +1,10 @@
 //! What a person may do first, below the line of a fault.
 
-use crate::refusal::{Paths, ProgramFault, Refusal, Subject};
+use crate::refusal::Paths;
 use crate::shell_path::{ShellPath, ShellPathText};
 use dd_dir::DirFault;
 use dd_elem::Write;
+use dd_file_set::{ProgramFault, Refusal, Subject};
 use dd_files::{Cause, Hints};
 use dd_layout::PlanFault;
 use dd_lines::print_line;

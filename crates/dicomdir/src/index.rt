@@ -7,28 +7,27 @@ ghost use Rattle.dd_files.specs.Keeping.{IfSaid};
 ghost use Rattle.dd_line.specs.Line.{words_of};
 ghost use Rattle.dd_lines.specs.Text.{TakesText};
 ghost use Rattle.dicomdir.specs.Indexes.{DoneIndexes, Indexes, IsIndexStatus, has_failed, status_past};
-ghost use Rattle.dicomdir.specs.Left.{MakesDirectoryLast};
+ghost use Rattle.dd_file_set.specs.Left.{MakesDirectoryLast};
 ghost use Rattle.dicomdir.specs.ListedNames.{AreOfSources, HavePaths};
 ghost use Rattle.dicomdir.specs.Noted.{IsNotedIndex};
 ghost use Rattle.dicomdir.specs.Prints.{PrintsIndex};
-ghost use Rattle.dicomdir.specs.Refusal.{IsOfWork};
+ghost use Rattle.dd_file_set.specs.Refusal.{IsOfWork};
 ghost use Rattle.dicomdir.specs.Said.{SaysNotes};
 
 use crate::dates::show_dates;
-use crate::file_set::FileSet;
 use crate::file_supply::FileSupply;
 use crate::making::{Making, make_file_set, tell_plan_of_images};
 use crate::note_lines::{
     Unread, has_notes, refuse_noted, tell_conflict, tell_left_out, tell_names, tell_skipped,
 };
 use crate::origins::SourceFiles;
-use crate::refusal::{ProgramFault, Refusal, Subject};
 use crate::source_counts::SourceCounts;
 use crate::sum::{Sum, show_sum};
 use dd_elem::{Memory, Write};
 use dd_engine::{
     EngineFault, NotedFault, NotedIndex, PastFailures, index_past_failures, index_with_notes,
 };
+use dd_file_set::{FileSet, ProgramFault, Refusal, Subject};
 use dd_files::{Files, Hints, Progress, SOURCE_LIMIT, Step};
 use dd_json::Style;
 use dd_keys::KeyFault;

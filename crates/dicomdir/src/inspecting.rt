@@ -3,13 +3,14 @@ ghost use Rattle.std.specs.Prelude.{◌≡◌, ◌<◌, ◌≤◌, ◌⊎◌, �
 ghost use Rattle.dd_lines.specs.Text.{FailsInText, TakesText};
 ghost use Rattle.dicomdir.specs.Inspecting.{ChecksSet, IsBrokenLine, ListsSet, comparison_by, form_by};
 ghost use Rattle.dicomdir.specs.Inspecting.{style_by};
-ghost use Rattle.dicomdir.specs.Refusal.{IsOfWork};
+ghost use Rattle.dd_file_set.specs.Refusal.{IsOfWork};
 
 use crate::fault_json::print_broken_json;
-use crate::refusal::{Refusal, Words};
+use crate::refusal::Words;
 use crate::set_directory::{directory_bytes, refusal_of};
 use dd_dir::{DirFault, read_directory};
 use dd_elem::Write;
+use dd_file_set::Refusal;
 use dd_files::{Files, Progress};
 use dd_json::Style;
 use dd_line::{CheckRequest, ListRequest};

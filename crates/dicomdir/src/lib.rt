@@ -4,23 +4,18 @@
 //! `run` has its contract.
 #![tactic(auto)]
 
-mod copies;
 mod counted_reader;
 mod dates;
 mod empty_paths;
 mod fault_json;
-mod file_set;
 mod file_supply;
 mod hints;
-mod image_path;
-mod images;
 mod index;
 mod inspecting;
 mod laws;
 mod line_flags;
 mod line_paths;
 mod line_refusal;
-mod links;
 mod listed_names;
 mod making;
 mod masked_words;
@@ -29,6 +24,7 @@ mod names;
 mod note_json;
 mod note_lines;
 mod origins;
+mod pile_path;
 mod piles;
 mod program;
 mod publishing;
@@ -50,6 +46,7 @@ pub use dd_engine::{
     first_saying, index_engine, index_with_notes, merge_engine, merge_with_notes, withdraw_engine,
     withdraw_with_notes,
 };
+pub use dd_file_set::ProgramFault;
 pub use dd_files::{
     Cause, CopyFault, DIRECTORY, Files, Hints, LinkFault, NotDone, NotThere, Progress, Step,
     copy_image, digest_text,
@@ -65,4 +62,3 @@ pub use laws::{
     same_versions_leave_one_directory,
 };
 pub use program::run;
-pub use refusal::ProgramFault;

@@ -2,8 +2,9 @@ ghost use Rattle.std.specs.Prelude.{◌≡◌, ◌≤◌, true};
 ghost use Rattle.dicomdir.specs.Mistakes.{IsMistake};
 
 use crate::masked_words::{have_control, mask_words};
-use crate::refusal::{Paths, Refusal, RefusalForm, tell};
+use crate::refusal::{Paths, RefusalForm, tell};
 use dd_elem::Write;
+use dd_file_set::Refusal;
 use dd_line::{LineFault, read_words};
 use dd_lines::Text;
 use std::alloc::Global;

@@ -1,23 +1,21 @@
-ghost use Rattle.std.specs.Prelude.{◌≡◌, ◌≤◌, ◌⊎◌, All, IfErr, IfOk, IsErr, IsOk, OnOk, false, length, string_bytes};
+ghost use Rattle.std.specs.Prelude.{◌≡◌, ◌≤◌, ◌⊎◌, IfErr, IfOk, IsErr, IsOk, OnOk, false, length, string_bytes};
 ghost use Rattle.dd_elem.specs.Device.{HasFailed};
 ghost use Rattle.dd_files.specs.Keeping.{IfSaid};
 ghost use Rattle.dd_layout.specs.Plans.{size};
 ghost use Rattle.dd_lines.specs.Text.{TakesText};
 ghost use Rattle.dicomdir.specs.Done.{counts_words, ending_text, images_text, images_words, word_of};
 ghost use Rattle.dicomdir.specs.Inspecting.{style_by};
-ghost use Rattle.dicomdir.specs.Left.{MakesDirectoryLast};
-ghost use Rattle.dicomdir.specs.Made.{MakesFileSet};
+ghost use Rattle.dd_file_set.specs.Left.{MakesDirectoryLast};
+ghost use Rattle.dd_file_set.specs.Made.{MakesFileSet};
 ghost use Rattle.dicomdir.specs.Prints.{size_of};
-ghost use Rattle.dicomdir.specs.Refusal.{IsOfWork};
+ghost use Rattle.dd_file_set.specs.Refusal.{IsOfWork};
 ghost use Rattle.dicomdir.specs.declared.making.Ending.TheVariants.{Done};
 
-use crate::file_set::{FileSet, write_file_set};
 use crate::inspecting::style_for;
 use crate::names::Names;
 use crate::note_json;
-use crate::origins::Origins;
-use crate::refusal::Refusal;
 use dd_elem::Write;
+use dd_file_set::{FileSet, Origins, Refusal, write_file_set};
 use dd_files::{Files, Progress};
 use dd_json::Style;
 use dd_layout::Plan;
@@ -117,7 +115,6 @@ pub(crate) fn make_file_set<F: Files + Progress, O: Origins, W: Write>(
     files: &mut F,
     out: &mut W,
 ) -> Result<u8, Refusal>
-    requires { All (O.has set.now.origins.now) set.now.picks.now }
     ensures refusal { IfErr result (IsOfWork (O.paths set.now.origins.now)) }
     ensures status { IfOk result (λ status. status ≤ 1) }
     ensures last { IfSaid (MakesDirectoryLast set.now.folder.now) (F.held files.old) (F.held files.new) }

@@ -7,25 +7,25 @@ ghost use Rattle.dd_engine.specs.Noting.{IsBelow};
 ghost use Rattle.dd_files.specs.Keeping.{IfSaid};
 ghost use Rattle.dd_line.specs.Line.{words_of};
 ghost use Rattle.dd_lines.specs.Text.{TakesText};
-ghost use Rattle.dicomdir.specs.Left.{MakesDirectoryLast};
-ghost use Rattle.dicomdir.specs.Made.{IsMemberPath, MakesFileSet};
+ghost use Rattle.dd_file_set.specs.Left.{MakesDirectoryLast};
+ghost use Rattle.dd_file_set.specs.Made.{MakesFileSet};
+ghost use Rattle.dicomdir.specs.Origins.{IsMemberPath};
 ghost use Rattle.dicomdir.specs.Merges.{DoneMerges};
 ghost use Rattle.dicomdir.specs.Noted.{IsNoted, NamesBelow};
 ghost use Rattle.dicomdir.specs.Prints.{PrintsMerge, last_line};
-ghost use Rattle.dicomdir.specs.Refusal.{IsOfWork, IsStrict};
+ghost use Rattle.dd_file_set.specs.Refusal.{IsOfWork, IsStrict};
 ghost use Rattle.dicomdir.specs.Said.{SaysSetNotes};
 
 use crate::dates::show_dates;
-use crate::file_set::FileSet;
 use crate::making::{Ending, Making, make_file_set, tell_counts};
 use crate::note_lines::{has_notes, refuse_noted, tell_conflict, tell_left_out, tell_names};
 use crate::origins::SetFiles;
-use crate::refusal::{ProgramFault, Refusal, Subject};
 use crate::set_directory::read_directories;
 use crate::set_note_lines::{has_set_notes, tell_unlisted, tell_unreached, tell_withdrawn};
 use crate::set_sum::{SetSum, show_set_sum};
 use dd_elem::{Memory, Write};
 use dd_engine::{MergeFault, NotedFault, NotedMerge, Pick, merge_with_notes, withdraw_with_notes};
+use dd_file_set::{FileSet, ProgramFault, Refusal, Subject};
 use dd_files::{Files, Hints, Progress};
 use dd_json::Style;
 use dd_layout::Limits;
@@ -181,8 +181,7 @@ fn write_noted<'a, F: Files + Progress + Hints, O: Write>(
     files: &mut F,
     out: &mut O,
 ) -> Result<u8, Refusal>
-    requires sets { length sets.now.directories.now ≡ length sets.now.folders.now }
-    requires named { NamesBelow (length sets.now.folders.now) noted.now }
+    requires { NamesBelow (length sets.now.folders.now) noted.now }
     ensures refusal { IfErr result (IsOfWork (length sets.now.folders.now)) }
     ensures status { IfOk result (λ status. status ≤ 1) }
     ensures dry { making.entry.dry_run ≡ true → F.held files.new ≡ F.held files.old }

@@ -5,13 +5,12 @@ ghost use Rattle.dd_line.specs.Line.{words_of};
 ghost use Rattle.dd_staged.specs.Refusals.{sources_view};
 ghost use Rattle.dd_staged.specs.Sources.{Source, source_view};
 ghost use Rattle.dicomdir.specs.Publishes.{HasPiled, IsPiled};
-ghost use Rattle.dicomdir.specs.Refusal.{IsOfWork};
+ghost use Rattle.dd_file_set.specs.Refusal.{IsOfWork};
 
-use crate::image_path::PathText;
 use crate::listed_names::masked;
-use crate::refusal::{ProgramFault, Refusal, Subject};
 use dd_elem::Memory;
 use dd_engine::FoundSources;
+use dd_file_set::{PathText, ProgramFault, Refusal, Subject};
 use dd_files::{Files, Progress, Step};
 use dd_pile::{PileFault, STAGED, read_pile};
 use dd_staged::Staged;

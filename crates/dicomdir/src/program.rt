@@ -13,9 +13,9 @@ ghost use Rattle.dicomdir.specs.Lines.{IndexSays, IndexesLine, IsIndex, IsMerge,
 ghost use Rattle.dicomdir.specs.Lines.{IsPublish, IsStage, PublishSays, PublishesLine, StagesLine, WithdrawSays};
 ghost use Rattle.dicomdir.specs.Lines.{WithdrawsLine};
 ghost use Rattle.dicomdir.specs.ListedNames.{AreOfSources, HavePaths};
-ghost use Rattle.dicomdir.specs.Made.{IsDone};
+ghost use Rattle.dicomdir.specs.Done.{IsDone};
 ghost use Rattle.dicomdir.specs.Names.{choice_by};
-ghost use Rattle.dicomdir.specs.Refusal.{IsOfWork};
+ghost use Rattle.dd_file_set.specs.Refusal.{IsOfWork};
 ghost use Rattle.dicomdir.specs.Words.{IsRequestStatus, IsStatusOf, IsTaken, MakesOf, MakesRequested, SaysOf};
 ghost use Rattle.dicomdir.specs.Words.{SaysRequested, StagesOf, StagesRequested, line_of};
 
@@ -29,11 +29,12 @@ use crate::making::Making;
 use crate::merging::{run_merge, run_withdraw};
 use crate::names::{Names, names_of};
 use crate::publishing::run_publish;
-use crate::refusal::{Paths, Refusal};
+use crate::refusal::Paths;
 use crate::source_paths::{all_sources, bad_names_in, paths_or};
 use crate::staging::run_stage;
 use crate::telling::{shows_hints, tell_empty, tell_refusal, tell_with_hints};
 use dd_elem::Write;
+use dd_file_set::Refusal;
 use dd_files::{Files, Hints, Progress};
 use dd_line::{Request, read_request};
 use std::alloc::Global;

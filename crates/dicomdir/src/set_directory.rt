@@ -1,10 +1,10 @@
 ghost use Rattle.std.specs.Prelude.{◌≡◌, ◌<◌, ℕ, IfErr, IfOk, IsOk, length, map};
 ghost use Rattle.dd_line.specs.Line.{words_of};
 ghost use Rattle.dicomdir.specs.Merges.{AreDirectories, HasDirectory};
-ghost use Rattle.dicomdir.specs.Refusal.{IsOfWork};
+ghost use Rattle.dd_file_set.specs.Refusal.{IsOfWork};
 
-use crate::refusal::{ProgramFault, Refusal, Subject};
 use dd_dir::DirFault;
+use dd_file_set::{ProgramFault, Refusal, Subject};
 use dd_files::{DIRECTORY, Files, Progress, ReadFault, SOURCE_LIMIT, Step, path_in, read_whole};
 use std::alloc::Global;
 

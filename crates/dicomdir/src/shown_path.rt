@@ -2,8 +2,8 @@ ghost use Rattle.std.specs.Prelude.{◌≡◌, ◌<◌, ℕ, List, length};
 ghost use Rattle.dd_line.specs.Line.{words_of};
 ghost use Rattle.dicomdir.specs.Said.{ShowsMember, path_at, shown_text};
 
-use crate::image_path::{IdPath, PathText};
 use dd_engine::Pick;
+use dd_file_set::{IdPath, PathText};
 use dd_files::is_joined_by_slash;
 
 /// The path of a source, or of a file in a file-set.

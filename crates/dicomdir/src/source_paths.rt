@@ -2,16 +2,15 @@ ghost use Rattle.std.specs.Prelude.{◌≡◌, ◌≤◌, ◌++◌, ℕ, [], IfE
 ghost use Rattle.std.specs.Option.{option_map_or};
 ghost use Rattle.dd_line.specs.Line.{OnlyReads, words_of};
 ghost use Rattle.dd_line.specs.Requests.{keeps_going, read_of, verb_of};
-ghost use Rattle.dicomdir.specs.FileSupply.{HasBytes};
+ghost use Rattle.dd_file_set.specs.Made.{HasBytes};
 ghost use Rattle.dicomdir.specs.From.{looked_up_list};
 ghost use Rattle.dicomdir.specs.ListedNames.{AreNames, FindsSources, HavePaths, list_of, parts};
-ghost use Rattle.dicomdir.specs.Refusal.{IsOfWork};
+ghost use Rattle.dd_file_set.specs.Refusal.{IsOfWork};
 
-use crate::file_set::refuse_taken;
 use crate::line_paths::{from_of, looked_up, looked_up_list};
 use crate::listed_names::{AllSources, NamesFault, add_names};
-use crate::refusal::{ProgramFault, Refusal, Subject};
 use dd_elem::Memory;
+use dd_file_set::{ProgramFault, Refusal, Subject, refuse_taken};
 use dd_files::{Files, ReadFault, SOURCE_LIMIT, read_whole};
 use dd_line::{Request, Sources};
 use std::alloc::Global;

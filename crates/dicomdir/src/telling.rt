@@ -1,12 +1,13 @@
 //! What a person is told where a run is refused.
 ghost use Rattle.std.specs.Prelude.{◌≡◌, ◌↔◌, ◌⊎◌, length};
-ghost use Rattle.dicomdir.specs.Refusal.{IsAmong, IsBadLine, IsOfWork};
+ghost use Rattle.dd_file_set.specs.Refusal.{IsAmong, IsBadLine, IsOfWork};
 
 use crate::hints::{hints_of, print_hints};
 use crate::line_flags::{is_quiet, is_verbose, style_of};
 use crate::line_paths::{LinePaths, as_given, list_of};
-use crate::refusal::{Paths, Refusal, RefusalForm, tell};
+use crate::refusal::{Paths, RefusalForm, tell};
 use dd_elem::Write;
+use dd_file_set::Refusal;
 use dd_files::{Files, Hints, Progress};
 use dd_json::Style;
 use dd_line::Request;

@@ -3,8 +3,8 @@ use Rattle.std.proofs.Common.{◌≡◌, ◌<◌, ◌≤◌, ℕ, Bool, true, fa
 use Rattle.std.specs.Prelude.{String}
 use Rattle.std.specs.declared.alloc.Global.{Global}
 use Rattle.std.proofs.lemmas.Bool.Decides.{nat_tests}
-use Rattle.dicomdir.specs.declared.refusal.ProgramFault.TheVariants.{Absent}
-use Rattle.dicomdir.specs.declared.refusal.Subject.TheVariants.{Source}
+use Rattle.dd_file_set.specs.declared.refusal.ProgramFault.TheVariants.{Absent}
+use Rattle.dd_file_set.specs.declared.refusal.Subject.TheVariants.{Source}
 use Rattle.dicomdir.specs.EmptyPaths.{IsEmptyAt, IsFirstEmpty}
 use Rattle.dicomdir.proofs.empty_paths.empty_path.Goals as goal
 

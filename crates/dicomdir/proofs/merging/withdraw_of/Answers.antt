@@ -1,10 +1,10 @@
 -- What was made is of the answer of the engine, whose one set is the directory in the folder. Images get no hard links.
 use Rattle.std.proofs.Common.{◌∙◌, ap, length, map}
 use Rattle.dd_line.specs.Line.{words_of}
-use Rattle.dicomdir.specs.Made.{IsMemberPath}
+use Rattle.dicomdir.specs.Origins.{IsMemberPath}
 use Rattle.dicomdir.proofs.EngineMade.{done_merges, only_one}
 use Rattle.dicomdir.proofs.PrintedLines.{merge_prints}
-use Rattle.dicomdir.proofs.Unlinked.{unlinked_done}
+use Rattle.dd_file_set.proofs.Unlinked.{unlinked_done}
 use Rattle.dicomdir.proofs.merging.withdraw_of.Goals as goal
 
 pub returns-clause-made : goal.returns-clause-made

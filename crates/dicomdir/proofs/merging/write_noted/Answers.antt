@@ -7,7 +7,7 @@ use Rattle.dicomdir.proofs.PrintedLines.{said_both, unnoted, unwithdrawn}
 use Rattle.dicomdir.proofs.SaidLines.{on_ok_gives}
 use Rattle.dicomdir.specs.Noted.{IsNoted}
 use Rattle.dicomdir.specs.Prints.{last_line}
-use Rattle.dicomdir.specs.declared.refusal.Refusal.{Refusal}
+use Rattle.dd_file_set.specs.declared.refusal.Refusal.{Refusal}
 use Rattle.dicomdir.proofs.merging.write_noted.Goals as goal
 
 pub returns-clause-made : goal.returns-clause-made

@@ -10,7 +10,7 @@ use Rattle.dicomdir.specs.Last.{MakesLastLine}
 use Rattle.dicomdir.specs.Lines.{IndexesLine, IsIndex, IsMerge, IsPublish, IsStage, IsWithdraw, MergesLine}
 use Rattle.dicomdir.specs.Lines.{IndexSays, MergeSays, PublishSays, PublishesLine, StagesLine, WithdrawSays}
 use Rattle.dicomdir.specs.Lines.{WithdrawsLine}
-use Rattle.dicomdir.specs.Made.{IsDone}
+use Rattle.dicomdir.specs.Done.{IsDone}
 use Rattle.dicomdir.specs.Words.{IsTaken, line_of}
 use Rattle.dicomdir.proofs.DryRuns.{given_keep_going, requested_dry, requested_work}
 use Rattle.dicomdir.proofs.EmptyWords.{requested_empty}

@@ -2,7 +2,7 @@
 use Rattle.std.proofs.Common.{◌∙◌, refl}
 use Rattle.dd_line.specs.Line.{words_of}
 use Rattle.dicomdir.proofs.HavingPaths.{all_named}
-use Rattle.dicomdir.specs.declared.refusal.Refusal.{Refusal}
+use Rattle.dd_file_set.specs.declared.refusal.Refusal.{Refusal}
 use Rattle.dicomdir.proofs.LinesMade.{index_done, merge_done, publish_done}
 use Rattle.dicomdir.proofs.LinesSaid.{index_said, merge_said, publish_said}
 use Rattle.dicomdir.proofs.program.run_verb.Goals as goal

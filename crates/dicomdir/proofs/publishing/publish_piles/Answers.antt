@@ -5,10 +5,10 @@ use Rattle.std.specs.Prelude.{IsOk, Ok}
 use Rattle.dd_engine.specs.Indexed.{IsWithin}
 use Rattle.dd_engine.specs.Noting.{AreBelow, IsBelow}
 use Rattle.dd_line.specs.Line.{words_of}
-use Rattle.dicomdir.proofs.PilesMade.{done_publish, have_places, of_names, publish_prints}
+use Rattle.dicomdir.proofs.PilesMade.{all_in_piles, done_publish, have_places, of_names, publish_prints}
 use Rattle.dicomdir.proofs.PrintedLines.{unnoted}
 use Rattle.dicomdir.proofs.SaidLines.{on_ok_gives}
-use Rattle.dicomdir.specs.declared.refusal.Refusal.{Refusal}
+use Rattle.dd_file_set.specs.declared.refusal.Refusal.{Refusal}
 use Rattle.dicomdir.specs.Noted.{IsNotedIndex}
 use Rattle.dicomdir.proofs.publishing.publish_piles.Goals as goal
 
@@ -33,12 +33,20 @@ tell_noted-requires g c =
           c.in-Ok.ensures.below);
     }
 
-pub make_file_set-requires : goal.make_file_set-requires
-make_file_set-requires g c =
+pub invariant_of-set : goal.invariant_of-set
+invariant_of-set g c =
     let piles = c.args.piles.now in
-    rw (c.deref-3.ensures.value, c.deref-4.ensures.value) (have_places (words_of piles) (length piles) _
-    c.in_ok-names.field-0 c.in-Ok.past.noted.indexed.picks.items (length-map piles (λ word. string_bytes word))
-    c.in_ok-names.ensures.piled (λ answers found. (c.in-Ok.ensures.within answers found).picks))
+    record {
+      in_piles = rw c.deref-3.ensures.value (all_in_piles (words_of piles) (length piles) _ c.in_ok-names.field-0
+          (length-map piles (λ word. string_bytes word)) c.in_ok-names.ensures.piled);
+    }
+
+pub invariant_of-set-2 : goal.invariant_of-set-2
+invariant_of-set-2 g c = record {
+  within = rw (c.deref-3.ensures.value, c.deref-4.ensures.value) (have_places (words_of c.args.piles.now) _
+      c.in_ok-names.field-0 c.in-Ok.past.noted.indexed.picks.items c.in_ok-names.ensures.piled
+      (λ answers found. (c.in-Ok.ensures.within answers found).picks));
+}
 
 pub returns-clause-made : goal.returns-clause-made
 returns-clause-made g c = λ makes.

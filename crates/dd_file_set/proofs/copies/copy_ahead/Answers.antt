@@ -1,0 +1,50 @@
+-- All bytes that were read ahead went to a new file, which then ended.
+use Rattle.std.proofs.Common.{subst}
+use Rattle.dd_files.proofs.KeptFiles.{held_published, said_grown, said_then}
+use Rattle.dd_filing.specs.Filing.{IsFileAs}
+use Rattle.dd_filing.specs.declared.agreeing.Filed.{Filed}
+use Rattle.dd_file_set.proofs.Fronts.{ahead_front}
+use Rattle.dd_file_set.proofs.ImagePlaces.{image_path}
+use Rattle.dd_file_set.specs.Made.{IsImagePath}
+use Rattle.dd_file_set.proofs.copies.copy_ahead.Goals as goal
+
+pub returns-in-Ok-clause-made : goal.returns-in-Ok-clause-made
+returns-in-Ok-clause-made g c = λ done.
+    let start = c.in_ok-start_copy.ensures.started cc in
+    let sent = c.in-Ok.ensures in
+    let bytes = c.args.ahead.now.bytes in
+    record {
+      path = start.path;
+      bytes = bytes;
+      ranks = start.ranks;
+      place = start.place;
+      free = start.free;
+      of = c.requires.known sent.0;
+      is = subst (λ (filed : Filed). IsFileAs c.args.image.now.planned.now filed bytes)
+          (c.end_copy.ensures.planned done)
+          sent.1.0;
+      made = held_published start.path bytes _ _ _ _ start.started
+          (g.met.F.Files.written_grows _ _ bytes sent.1.1.stays sent.1.1.holds) (c.end_copy.ensures.ended done);
+    }
+
+pub returns-in-Err-clause-refusal : goal.returns-in-Err-clause-refusal
+returns-in-Err-clause-refusal g c =
+    c.refusal_of.ensures.work (g.O.Origins.paths c.args.image.now.origins.now) (c.subject.ensures.among c.requires.has)
+
+pub returns-in-Ok-clause-adds : goal.returns-in-Ok-clause-adds
+returns-in-Ok-clause-adds g c =
+    let start = c.in_ok-start_copy.ensures.started cc in
+    let went = c.in-Ok.ensures.1.1 in
+    let bytes = c.args.ahead.now.bytes in
+    let MayBe = IsImagePath c.args.image.now.folder.now in
+    said_then MayBe _ _ _
+    (said_grown MayBe start.path bytes _ _ _ (image_path start) start.free start.started
+    (g.met.F.Files.written_grows _ _ bytes went.stays went.holds)) c.end_copy.ensures.adds
+
+pub returns-in-Err-clause-adds : goal.returns-in-Err-clause-adds
+returns-in-Err-clause-adds g c =
+    let start = c.in_ok-start_copy.ensures.started cc in
+    let front = ahead_front g.F.Write _ _ c.args.image.now.planned.now c.in-Err.fault c.args.ahead.now c.in-Err.ensures
+    in
+    said_grown (IsImagePath c.args.image.now.folder.now) start.path front.bytes _ _ _ (image_path start) start.free
+    start.started (g.met.F.Files.written_grows _ _ front.bytes front.stays front.holds)

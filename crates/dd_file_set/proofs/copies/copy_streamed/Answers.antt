@@ -1,0 +1,55 @@
+-- All that the reader gave went to a new file, which then ended.
+use Rattle.std.proofs.Common.{subst}
+use Rattle.dd_files.proofs.KeptFiles.{held_published, said_grown, said_then}
+use Rattle.dd_filing.specs.Filing.{IsFileAs}
+use Rattle.dd_filing.specs.declared.agreeing.Filed.{Filed}
+use Rattle.dd_file_set.proofs.Fronts.{copy_front}
+use Rattle.dd_file_set.proofs.KnownAhead.{one_given}
+use Rattle.dd_file_set.proofs.ImagePlaces.{image_path}
+use Rattle.dd_file_set.specs.Made.{IsImagePath}
+use Rattle.dd_file_set.proofs.copies.copy_streamed.Goals as goal
+
+pub returns-in-Ok-clause-made : goal.returns-in-Ok-clause-made
+returns-in-Ok-clause-made g c = λ done.
+    let start = c.in_ok-start_copy.ensures.started cc in
+    let h = c.in-Ok.ensures in
+    let went = h.answered.1.1 in
+    let opened = c.in_ok-reader.ensures.opened in
+    record {
+      path = start.path;
+      bytes = h.given;
+      ranks = start.ranks;
+      place = start.place;
+      free = rw c.in_ok-reader.ensures.kept at start.free;
+      of = one_given (g.O.Origins.stands_at c.args.image.now.origins.now c.args.image.now.pick) opened.from
+          (g.F.Files.held c.args.files.now) _ _ h.given opened.picked opened.unread.left h.known h.answered.1.0.1;
+      is = subst (λ (filed : Filed). IsFileAs c.args.image.now.planned.now filed h.given)
+          (c.end_copy.ensures.planned done)
+          h.answered.0;
+      made = held_published start.path h.given _ _ _ _ (rw c.in_ok-reader.ensures.kept at start.started)
+          (g.met.F.Files.written_grows _ _ h.given went.stays went.holds) (c.end_copy.ensures.ended done);
+    }
+
+pub returns-clause-refusal : goal.returns-clause-refusal
+returns-clause-refusal g c =
+    c.refusal_of.ensures.work (g.O.Origins.paths c.args.image.now.origins.now) (c.subject.ensures.among c.requires)
+
+pub returns-in-Ok-clause-adds : goal.returns-in-Ok-clause-adds
+returns-in-Ok-clause-adds g c =
+    let start = c.in_ok-start_copy.ensures.started cc in
+    let h = c.in-Ok.ensures in
+    let went = h.answered.1.1 in
+    let MayBe = IsImagePath c.args.image.now.folder.now in
+    said_then MayBe _ _ _
+    (said_grown MayBe start.path h.given _ _ _ (image_path start) (rw c.in_ok-reader.ensures.kept at start.free)
+    (rw c.in_ok-reader.ensures.kept at start.started)
+    (g.met.F.Files.written_grows _ _ h.given went.stays went.holds)) c.end_copy.ensures.adds
+
+pub returns-clause-adds : goal.returns-clause-adds
+returns-clause-adds g c =
+    let start = c.in_ok-start_copy.ensures.started cc in
+    let h = c.in-Err.ensures in
+    let front = copy_front g.F.Write _ _ c.in-Err.fault _ h.given _ _ _ h.answered in
+    said_grown (IsImagePath c.args.image.now.folder.now) start.path front.bytes _ _ _ (image_path start)
+    (rw c.in_ok-reader.ensures.kept at start.free) (rw c.in_ok-reader.ensures.kept at start.started)
+    (g.met.F.Files.written_grows _ _ front.bytes front.stays front.holds)

@@ -1,0 +1,6 @@
+pub mod Claims
+pub mod Left
+pub mod Made
+pub mod ReadingAhead
+pub mod Refusal
+pub mod Standing

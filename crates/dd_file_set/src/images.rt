@@ -1,0 +1,87 @@
+//! An image of a file-set: its file, its folder, and how it is stored.
+ghost use Rattle.std.specs.Prelude.{◌≡◌, ◌<◌, ℕ, IfErr, IfOk, IsErr};
+ghost use Rattle.dd_elem.specs.Device.{counted};
+ghost use Rattle.dd_files.specs.Files.{IsUnread};
+ghost use Rattle.dd_file_set.specs.ReadingAhead.{OpensOne};
+ghost use Rattle.dd_file_set.specs.Refusal.{IsOfWork};
+
+use crate::image_path::{ImageFolder, ImagePathText};
+use crate::origins::{Lookup, Origins};
+use crate::refusal::{ProgramFault, Refusal, Subject};
+use dd_elem::FileId;
+use dd_files::{Files, NotThere, path_in};
+use dd_version::Version;
+use std::alloc::Global;
+
+#[derive(Drop)]
+pub(crate) struct Image<'a, O: Origins> {
+    pub(crate) folder: &'a str,
+    /// The File ID of the image.
+    pub(crate) file: FileId,
+    /// Its version in the plan.
+    pub(crate) planned: &'a Version,
+    /// The files that images are made of.
+    pub(crate) origins: &'a O,
+    /// The file that this one is made of.
+    pub(crate) pick: O::Pick,
+}
+
+pub(crate) fn open<F: Files, O: Origins>(
+    alloc: Global,
+    origins: &O,
+    pick: O::Pick,
+    files: &mut F,
+) -> Result<F::In, Refusal>
+    requires { O.number pick < O.count origins.now }
+    ensures refusal { IfErr result (IsOfWork (O.paths origins.now)) }
+    ensures opened { IfOk result
+        (OpensOne F.In.Read (O.stands_at origins.now pick) (F.held files.old)) }
+    ensures kept { F.held files.new ≡ F.held files.old }
+{
+    let path = origins.path(alloc, pick)?;
+    match open_at(origins.lookup(pick), path.as_str(), files) {
+        Ok(reader) => Ok(reader),
+        Err(_) => Err(Refusal::of(origins.subject(pick), ProgramFault::Absent)),
+    }
+}
+
+fn open_at<F: Files>(lookup: Lookup<'_>, path: &str, files: &mut F) -> Result<F::In, NotThere>
+    ensures opened { IfOk result (IsUnread F.In.Read (F.held files.old) path.now) }
+    ensures kept { F.held files.new ≡ F.held files.old }
+{
+    match lookup {
+        Lookup::Source => files.source(path),
+        Lookup::Member(set) => files.member(set, path),
+        Lookup::Stored(_) => files.exact_file(path),
+    }
+}
+
+pub(crate) fn make_folder<F: Files>(
+    alloc: Global,
+    folder: &str,
+    file: FileId,
+    files: &mut F,
+) -> Result<(), Refusal>
+    ensures refusal { (paths : ℕ) → IfErr result (IsOfWork paths) }
+    ensures kept { F.held files.new ≡ F.held files.old }
+{
+    let below = ImagePathText::of(&ImageFolder(file));
+    let path = path_in(alloc, folder, below.as_str())?;
+    if files.folder_in(folder, path.as_str()).is_err() {
+        return Err(Refusal::of(Subject::ImageFolder(file), ProgramFault::Folder));
+    }
+    Ok(())
+}
+
+/// Has the images stored that wait, where they are a batch.
+pub(crate) fn store_batch<F: Files>(files: &mut F) -> Result<(), Refusal>
+    ensures refused { IsErr result → F.refusals files.new ≡ counted (F.refusals files.old) }
+    ensures fault { IfErr result (λ refusal.
+        refusal ≡ record { subject = Subject.Unstored; fault = ProgramFault.Unsent }) }
+    ensures kept { F.held files.new ≡ F.held files.old }
+{
+    match files.store_batch() {
+        Ok(()) => Ok(()),
+        Err(_) => Err(Refusal::of(Subject::Unstored, ProgramFault::Unsent)),
+    }
+}
