@@ -9,7 +9,7 @@ use Rattle.dd_filing.specs.Filing.{IsRefusedCopy}
 use Rattle.dd_filing.specs.Taken.{Taken}
 use Rattle.dd_filing.specs.declared.copying.FilingFault.{FilingFault}
 use Rattle.dd_filing.specs.declared.copying.FilingFault.TheVariants.{Changed, Memory, Unread, Unsent}
-use Rattle.dd_stream.specs.Sends.{GoesTo, SendsTo, StopsIn}
+use Rattle.dd_stream.specs.Sends.{SendsTo}
 use Rattle.dd_stream.specs.declared.write_fault.WriteFault.{WriteFault}
 use Rattle.dd_stream.specs.declared.write_fault.WriteFault.TheVariants.{NotWritable, Write}
 use Rattle.dd_version.specs.declared.parts.Parts.{Parts}

@@ -1,4 +1,5 @@
 pub mod AllStanding
+mod DueFaults
 mod Fronts
 mod ImagePlaces
 mod ImagesMade

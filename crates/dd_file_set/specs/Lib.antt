@@ -2,5 +2,6 @@ pub mod Claims
 pub mod Left
 pub mod Made
 pub mod ReadingAhead
+pub mod Reasons
 pub mod Refusal
 pub mod Standing

@@ -2,11 +2,14 @@
 ghost use Rattle.std.specs.Prelude.{◌≡◌, ◌<◌, ℕ, All, IfErr, IfOk, IsOk, length, option_map};
 ghost use Rattle.dd_files.specs.Files.{ended};
 ghost use Rattle.dd_files.specs.Keeping.{Adds, IfSaid};
+ghost use Rattle.dd_files.specs.Reasons.{HasCounted, HasFailedReader};
+ghost use Rattle.dd_filing.specs.Ahead.{AreDue, IsDue};
 ghost use Rattle.dd_filing.specs.declared.places.Ahead.TheVariants as known;
 ghost use Rattle.dd_layout.specs.Plans.{records_of};
 ghost use Rattle.dd_file_set.specs.Made.{Copies, CopiesImage, IsImagePath, MakesImage, MakesImages, StartsImage};
 ghost use Rattle.dd_file_set.specs.Claims.{IsRefusedAs};
 ghost use Rattle.dd_file_set.specs.ReadingAhead.{IsKnown, KnowsNext, ReadsNext};
+ghost use Rattle.dd_file_set.specs.Reasons.{IsDueTo};
 ghost use Rattle.dd_file_set.specs.Refusal.{IsAmong, IsMemory, IsOfWork};
 
 use crate::file_set::FileSet;
@@ -46,6 +49,8 @@ pub(crate) fn copy_images<F: Files + Progress, O: Origins>(
         (F.held files.old) (F.held files.new) }
     ensures adds { IfSaid (Adds (IsImagePath set.now.folder.now))
         (F.held files.old) (F.held files.new) }
+    ensures due { IfErr result (λ refusal.
+        IsDueTo F.In.Read (F.refusals files.new) (F.Write.failures files.new) refusal.fault) }
 {
     let mut left = Left {
         picks: set.picks,
@@ -70,6 +75,8 @@ fn copy_record<F: Files + Progress, O: Origins>(
     requires within { row.now.of < length set.now.plan.now.versions }
     requires known { KnowsNext (O.stands_at set.now.origins.now) left.old.picks.now left.old.ahead
         (F.held files.old) }
+    requires ahead { AreDue (HasCounted (F.refusals files.old)) (HasFailedReader F.In.Read)
+        left.old.ahead }
     ensures refusal { IfErr result (IsOfWork (O.paths set.now.origins.now)) }
     ensures has { IsOk result → All (λ pick. O.number pick < O.count set.now.origins.now) left.new.picks.now }
     ensures copied { IsOk result → Copies
@@ -80,6 +87,10 @@ fn copy_record<F: Files + Progress, O: Origins>(
         left.new.ahead (F.held files.new) }
     ensures adds { IfSaid (Adds (IsImagePath set.now.folder.now))
         (F.held files.old) (F.held files.new) }
+    ensures due { IfErr result (λ refusal.
+        IsDueTo F.In.Read (F.refusals files.new) (F.Write.failures files.new) refusal.fault) }
+    ensures ahead { IsOk result → AreDue (HasCounted (F.refusals files.new))
+        (HasFailedReader F.In.Read) left.new.ahead }
 {
     match (row.file, left.picks) {
         (Some(file), [pick, later @ ..]) => {
@@ -113,8 +124,11 @@ fn read_ahead<F: Files, O: Origins>(
 )
     requires has { All (λ pick. O.number pick < O.count origins.now) picks.now }
     requires known { KnowsNext (O.stands_at origins.now) picks.now ahead.old (F.held files.old) }
+    requires due { AreDue (HasCounted (F.refusals files.old)) (HasFailedReader F.In.Read) ahead.old }
     ensures known { KnowsNext (O.stands_at origins.now) picks.now ahead.new (F.held files.new) }
     ensures kept { F.held files.new ≡ F.held files.old }
+    ensures due { AreDue (HasCounted (F.refusals files.new)) (HasFailedReader F.In.Read) ahead.new }
+    ensures counts { HasCounted (F.refusals files.old) → HasCounted (F.refusals files.new) }
 {
     if origins.gives_links() || !ahead.is_past() {
         return;
@@ -139,8 +153,11 @@ fn read_next<F: Files, O: Origins>(
 )
     requires has { O.number pick < O.count origins.now }
     requires room { length ahead.old.files < 8 }
+    requires due { AreDue (HasCounted (F.refusals files.old)) (HasFailedReader F.In.Read) ahead.old }
     ensures read { ReadsNext (O.stands_at origins.now pick) (F.held files.new) ahead.old ahead.new }
     ensures kept { F.held files.new ≡ F.held files.old }
+    ensures due { AreDue (HasCounted (F.refusals files.new)) (HasFailedReader F.In.Read) ahead.new }
+    ensures counts { HasCounted (F.refusals files.old) → HasCounted (F.refusals files.new) }
 {
     match open(alloc, origins, pick, files) {
         Ok(reader) if files.said_size(&reader) > AHEAD_LIMIT => ahead.skip(),
@@ -159,6 +176,7 @@ fn make_image<F: Files + Progress, O: Origins>(
     requires has { O.number image.now.pick < O.count image.now.origins.now }
     requires known { IsKnown (O.stands_at image.now.origins.now image.now.pick) ahead
         (F.held files.old) }
+    requires due { IsDue (HasCounted (F.refusals files.old)) (HasFailedReader F.In.Read) ahead }
     ensures refusal { IfErr result (IsOfWork (O.paths image.now.origins.now)) }
     ensures made { IsOk result → MakesImage
         (O.stands_at image.now.origins.now image.now.pick)
@@ -167,6 +185,10 @@ fn make_image<F: Files + Progress, O: Origins>(
         (F.held files.old) (F.held files.new) }
     ensures adds { IfSaid (Adds (IsImagePath image.now.folder.now))
         (F.held files.old) (F.held files.new) }
+    ensures due { IfErr result (λ refusal.
+        IsDueTo F.In.Read (F.refusals files.new) (F.Write.failures files.new) refusal.fault) }
+    ensures counts { IsOk result → HasCounted (F.refusals files.old)
+        → HasCounted (F.refusals files.new) }
 {
     if link_image(alloc, image, files)? {
         return Ok(());
@@ -183,6 +205,7 @@ fn copy_image<F: Files + Progress, O: Origins>(
     requires has { O.number image.now.pick < O.count image.now.origins.now }
     requires known { IsKnown (O.stands_at image.now.origins.now image.now.pick) ahead
         (F.held files.old) }
+    requires due { IsDue (HasCounted (F.refusals files.old)) (HasFailedReader F.In.Read) ahead }
     ensures refusal { IfErr result (IsOfWork (O.paths image.now.origins.now)) }
     ensures made { IsOk result
         → CopiesImage (O.stands_at image.now.origins.now image.now.pick)
@@ -190,6 +213,10 @@ fn copy_image<F: Files + Progress, O: Origins>(
         (F.held files.old) (F.held files.new) }
     ensures adds { IfSaid (Adds (IsImagePath image.now.folder.now))
         (F.held files.old) (F.held files.new) }
+    ensures due { IfErr result (λ refusal.
+        IsDueTo F.In.Read (F.refusals files.new) (F.Write.failures files.new) refusal.fault) }
+    ensures counts { IsOk result → HasCounted (F.refusals files.old)
+        → HasCounted (F.refusals files.new) }
 {
     match ahead {
         Ahead::File(file) => copy_ahead(alloc, image, &file, files),
@@ -210,6 +237,8 @@ fn copy_ahead<F: Files + Progress, O: Origins>(
     requires has { O.number image.now.pick < O.count image.now.origins.now }
     requires known { IsKnown (O.stands_at image.now.origins.now image.now.pick)
         (known.File ahead.now) (F.held files.old) }
+    requires due { IsDue (HasCounted (F.refusals files.old)) (HasFailedReader F.In.Read)
+        (known.File ahead.now) }
     ensures refusal { IfErr result (IsOfWork (O.paths image.now.origins.now)) }
     ensures made { IsOk result
         → CopiesImage (O.stands_at image.now.origins.now image.now.pick)
@@ -217,6 +246,10 @@ fn copy_ahead<F: Files + Progress, O: Origins>(
         (F.held files.old) (F.held files.new) }
     ensures adds { IfSaid (Adds (IsImagePath image.now.folder.now))
         (F.held files.old) (F.held files.new) }
+    ensures due { IfErr result (λ refusal.
+        IsDueTo F.In.Read (F.refusals files.new) (F.Write.failures files.new) refusal.fault) }
+    ensures counts { IsOk result → HasCounted (F.refusals files.old)
+        → HasCounted (F.refusals files.new) }
 {
     start_copy(alloc, image.folder, image.file, files)?;
     match ahead.copy_to(files, image.planned) {
@@ -239,6 +272,10 @@ fn copy_streamed<F: Files + Progress, O: Origins>(
         (F.held files.old) (F.held files.new) }
     ensures adds { IfSaid (Adds (IsImagePath image.now.folder.now))
         (F.held files.old) (F.held files.new) }
+    ensures due { IfErr result (λ refusal.
+        IsDueTo F.In.Read (F.refusals files.new) (F.Write.failures files.new) refusal.fault) }
+    ensures counts { IsOk result → HasCounted (F.refusals files.old)
+        → HasCounted (F.refusals files.new) }
 {
     let mut reader = open(alloc, image.origins, image.pick, files)?;
     start_copy(alloc, image.folder, image.file, files)?;
@@ -259,6 +296,10 @@ fn start_copy<F: Files>(
         → StartsImage folder.now file (F.held files.old) (F.held files.new) }
     ensures adds { IfSaid (Adds (IsImagePath folder.now))
         (F.held files.old) (F.held files.new) }
+    ensures due { IfErr result (λ refusal.
+        IsDueTo F.In.Read (F.refusals files.new) (F.Write.failures files.new) refusal.fault) }
+    ensures counts { IsOk result → HasCounted (F.refusals files.old)
+        → HasCounted (F.refusals files.new) }
 {
     make_folder(alloc, folder, file, files)?;
     let path = file_path(alloc, folder, &file.text())?;
@@ -282,6 +323,10 @@ fn end_copy<F: Files + Progress, O: Origins>(
     ensures ended { IsOk result → F.held files.new ≡ option_map ended (F.held files.old) }
     ensures adds { IfSaid (Adds (IsImagePath image.now.folder.now))
         (F.held files.old) (F.held files.new) }
+    ensures due { IfErr result (λ refusal.
+        IsDueTo F.In.Read (F.refusals files.new) (F.Write.failures files.new) refusal.fault) }
+    ensures counts { IsOk result → HasCounted (F.refusals files.old)
+        → HasCounted (F.refusals files.new) }
 {
     if files.finish().is_err() {
         return Err(Refusal::of(Subject::Image(image.file), ProgramFault::Unsent));

@@ -1,11 +1,13 @@
 ghost use Rattle.std.proofs.Props.{props};
-ghost use Rattle.std.specs.Prelude.{◌≡◌, ◌++◌, ◌<◌, ℕ, All, List, IfErr, IsErr, IsOk, option_map};
+ghost use Rattle.std.specs.Prelude.{◌≡◌, ◌⊎◌, ◌++◌, ◌<◌, ℕ, All, List, IfErr, IsErr, IsOk, option_map};
 ghost use Rattle.dd_dir.specs.Directories.{directory_of};
 ghost use Rattle.dd_elem.specs.Device.{counted, HasFailed};
 ghost use Rattle.dd_files.specs.Files.{ended, grown, published, started, stored};
 ghost use Rattle.dd_files.specs.Keeping.{Adds, IfSaid, IsFree};
 ghost use Rattle.dd_file_set.specs.Left.{IsPartWritten, MakesDirectoryLast};
 ghost use Rattle.dd_file_set.specs.Made.{MakesFileSet, RealisesPlan, SaysPlan};
+ghost use Rattle.dd_file_set.specs.Reasons.{IsDueTo, StandsDirectory};
+ghost use Rattle.dd_files.specs.Reasons.{HasCounted};
 ghost use Rattle.dd_file_set.specs.Refusal.{IsBadLine, IsOfWork};
 
 use crate::copies::copy_images;
@@ -34,6 +36,9 @@ pub struct FileSet<'a, O: Origins> {
 pub fn refuse_taken<F: Files>(alloc: Global, folder: &str, files: &mut F) -> Result<(), Refusal>
     ensures refusal { (paths : ℕ) → IfErr result (IsOfWork paths) }
     ensures kept { F.held files.new ≡ F.held files.old }
+    ensures absent { IsOk result → HasCounted (F.refusals files.new) }
+    ensures due { IfErr result (λ refusal. (refusal.fault ≡ ProgramFault.Memory)
+        ⊎ ((refusal.fault ≡ ProgramFault.Create) × StandsDirectory folder.now (F.held files.old))) }
 {
     let path = path_in(alloc, folder, DIRECTORY)?;
     if files.source(path.as_str()).is_ok() || files.member(folder, path.as_str()).is_ok() {
@@ -61,6 +66,8 @@ pub fn write_file_set<F: Files + Progress, O: Origins>(
     // Also where it is refused, the directory is made only once all else that it made was stored.
     ensures last { IfSaid (MakesDirectoryLast set.now.folder.now)
         (F.held files.old) (F.held files.new) }
+    ensures due { IfErr result (λ refusal.
+        IsDueTo F.In.Read (F.refusals files.new) (F.Write.failures files.new) refusal.fault) }
 {
     copy_images(alloc, set, files)?;
     if files.folder(set.folder).is_err() {
@@ -83,6 +90,8 @@ fn store<F: Files>(files: &mut F) -> Result<(), Refusal>
         refusal ≡ record { subject = Subject.Unstored; fault = ProgramFault.Unsent }) }
     ensures stored { IsOk result → F.held files.new ≡ option_map stored (F.held files.old) }
     ensures kept { IsErr result → F.held files.new ≡ F.held files.old }
+    ensures due { IfErr result (λ refusal.
+        IsDueTo F.In.Read (F.refusals files.new) (F.Write.failures files.new) refusal.fault) }
 {
     match files.store() {
         Ok(()) => Ok(()),
@@ -105,6 +114,8 @@ fn make_directory<F: Files>(path: &str, plan: &Plan, files: &mut F) -> Result<()
     ensures part { IfSaid (IsPartWritten path.now
         (directory_of plan.now.label plan.now.versions plan.now.withdrawn))
         (F.held files.old) (F.held files.new) }
+    ensures due { IfErr result
+        (IsDueTo F.In.Read (F.refusals files.new) (F.Write.failures files.new)) }
 {
     start_directory(path, files)?;
     send_directory(plan, files)?;
@@ -118,6 +129,8 @@ fn start_directory<F: Files>(path: &str, files: &mut F) -> Result<(), ProgramFau
     ensures made { IsOk result
         → F.held files.new ≡ option_map (started path.now) (F.held files.old) }
     ensures kept { IsErr result → F.held files.new ≡ F.held files.old }
+    ensures due { IfErr result
+        (IsDueTo F.In.Read (F.refusals files.new) (F.Write.failures files.new)) }
 {
     match files.create(path) {
         Ok(()) => Ok(()),
@@ -137,6 +150,8 @@ fn send_directory<F: Files>(plan: &Plan, files: &mut F) -> Result<(), ProgramFau
     ensures grows { (front : List ℕ) × ((rest : List ℕ)
         × (directory_of plan.now.label plan.now.versions plan.now.withdrawn ≡ front ++ rest))
         × (F.held files.new ≡ option_map (grown front) (F.held files.old)) }
+    ensures due { IfErr result
+        (IsDueTo F.In.Read (F.refusals files.new) (F.Write.failures files.new)) }
 {
     match write_directory(plan, files) {
         Ok(_) => Ok(()),
@@ -152,6 +167,8 @@ fn finish_directory<F: Files>(files: &mut F) -> Result<(), ProgramFault>
         (F.held files.old) (F.held files.new) }
     ensures same { IfSaid (λ old new. new.bytes_at ≡ old.bytes_at)
         (F.held files.old) (F.held files.new) }
+    ensures due { IfErr result
+        (IsDueTo F.In.Read (F.refusals files.new) (F.Write.failures files.new)) }
 {
     match files.finish() {
         Ok(()) => Ok(()),

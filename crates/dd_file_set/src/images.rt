@@ -1,8 +1,10 @@
 //! An image of a file-set: its file, its folder, and how it is stored.
-ghost use Rattle.std.specs.Prelude.{◌≡◌, ◌<◌, ℕ, IfErr, IfOk, IsErr};
+ghost use Rattle.std.specs.Prelude.{◌≡◌, ◌<◌, ℕ, IfErr, IfOk, IsErr, IsOk};
 ghost use Rattle.dd_elem.specs.Device.{counted};
 ghost use Rattle.dd_files.specs.Files.{IsUnread};
+ghost use Rattle.dd_files.specs.Reasons.{HasCounted};
 ghost use Rattle.dd_file_set.specs.ReadingAhead.{OpensOne};
+ghost use Rattle.dd_file_set.specs.Reasons.{IsDueTo};
 ghost use Rattle.dd_file_set.specs.Refusal.{IsOfWork};
 
 use crate::image_path::{ImageFolder, ImagePathText};
@@ -37,6 +39,9 @@ pub(crate) fn open<F: Files, O: Origins>(
     ensures opened { IfOk result
         (OpensOne F.In.Read (O.stands_at origins.now pick) (F.held files.old)) }
     ensures kept { F.held files.new ≡ F.held files.old }
+    ensures due { IfErr result (λ refusal.
+        IsDueTo F.In.Read (F.refusals files.new) (F.Write.failures files.new) refusal.fault) }
+    ensures counts { HasCounted (F.refusals files.old) → HasCounted (F.refusals files.new) }
 {
     let path = origins.path(alloc, pick)?;
     match open_at(origins.lookup(pick), path.as_str(), files) {
@@ -48,6 +53,8 @@ pub(crate) fn open<F: Files, O: Origins>(
 fn open_at<F: Files>(lookup: Lookup<'_>, path: &str, files: &mut F) -> Result<F::In, NotThere>
     ensures opened { IfOk result (IsUnread F.In.Read (F.held files.old) path.now) }
     ensures kept { F.held files.new ≡ F.held files.old }
+    ensures due { IsErr result → HasCounted (F.refusals files.new) }
+    ensures counts { HasCounted (F.refusals files.old) → HasCounted (F.refusals files.new) }
 {
     match lookup {
         Lookup::Source => files.source(path),
@@ -64,6 +71,10 @@ pub(crate) fn make_folder<F: Files>(
 ) -> Result<(), Refusal>
     ensures refusal { (paths : ℕ) → IfErr result (IsOfWork paths) }
     ensures kept { F.held files.new ≡ F.held files.old }
+    ensures due { IfErr result (λ refusal.
+        IsDueTo F.In.Read (F.refusals files.new) (F.Write.failures files.new) refusal.fault) }
+    ensures counts { IsOk result → HasCounted (F.refusals files.old)
+        → HasCounted (F.refusals files.new) }
 {
     let below = ImagePathText::of(&ImageFolder(file));
     let path = path_in(alloc, folder, below.as_str())?;
@@ -79,6 +90,10 @@ pub(crate) fn store_batch<F: Files>(files: &mut F) -> Result<(), Refusal>
     ensures fault { IfErr result (λ refusal.
         refusal ≡ record { subject = Subject.Unstored; fault = ProgramFault.Unsent }) }
     ensures kept { F.held files.new ≡ F.held files.old }
+    ensures due { IfErr result (λ refusal.
+        IsDueTo F.In.Read (F.refusals files.new) (F.Write.failures files.new) refusal.fault) }
+    ensures counts { IsOk result → HasCounted (F.refusals files.old)
+        → HasCounted (F.refusals files.new) }
 {
     match files.store_batch() {
         Ok(()) => Ok(()),

@@ -2,7 +2,9 @@
 ghost use Rattle.std.specs.Prelude.{◌≡◌, ◌<◌, ℕ, IfErr, IfOk, IfSome, IsErr, IsOk, IsSomeAnd, false, option_map, true};
 ghost use Rattle.dd_files.specs.Files.{linked};
 ghost use Rattle.dd_files.specs.Keeping.{Adds, IfSaid, IsFree};
+ghost use Rattle.dd_files.specs.Reasons.{HasCounted};
 ghost use Rattle.dd_file_set.specs.Made.{IsAsStored, IsImagePath, LinksImage};
+ghost use Rattle.dd_file_set.specs.Reasons.{IsDueTo, IsLinkDueTo};
 ghost use Rattle.dd_file_set.specs.Refusal.{IsAmong, IsOfWork};
 
 use crate::images::{Image, make_folder, open, store_batch};
@@ -30,6 +32,10 @@ pub(crate) fn link_image<F: Files + Progress, O: Origins>(
         is_linked ≡ false → F.held files.new ≡ F.held files.old) }
     ensures adds { IfSaid (Adds (IsImagePath image.now.folder.now))
         (F.held files.old) (F.held files.new) }
+    ensures due { IfErr result (λ refusal.
+        IsDueTo F.In.Read (F.refusals files.new) (F.Write.failures files.new) refusal.fault) }
+    ensures counts { IsOk result → HasCounted (F.refusals files.old)
+        → HasCounted (F.refusals files.new) }
 {
     let Image {
         folder,
@@ -66,6 +72,10 @@ fn open_unstored<F: Files, O: Origins>(
     requires { O.number image.now.pick < O.count image.now.origins.now }
     ensures refusal { IfErr result (IsOfWork (O.paths image.now.origins.now)) }
     ensures kept { F.held files.new ≡ F.held files.old }
+    ensures due { IfErr result (λ refusal.
+        IsDueTo F.In.Read (F.refusals files.new) (F.Write.failures files.new) refusal.fault) }
+    ensures counts { IsOk result → HasCounted (F.refusals files.old)
+        → HasCounted (F.refusals files.new) }
 {
     match lookup {
         Lookup::Stored(_) => {}
@@ -89,6 +99,8 @@ fn give_link<F: Files>(
     ensures linked { IsOk result
         → F.held files.new ≡ option_map (linked from.now path.now) (F.held files.old) }
     ensures kept { IsErr result → F.held files.new ≡ F.held files.old }
+    ensures due { IfErr result (IsLinkDueTo (F.refusals files.new)) }
+    ensures counts { HasCounted (F.refusals files.old) → HasCounted (F.refusals files.new) }
 {
     match lookup {
         Lookup::Stored(size) => files.link_stored(from, path, size),
@@ -101,6 +113,10 @@ fn give_link<F: Files>(
 fn store_link<F: Files>(lookup: Lookup<'_>, files: &mut F) -> Result<(), Refusal>
     ensures refusal { (paths : ℕ) → IfErr result (IsOfWork paths) }
     ensures kept { F.held files.new ≡ F.held files.old }
+    ensures due { IfErr result (λ refusal.
+        IsDueTo F.In.Read (F.refusals files.new) (F.Write.failures files.new) refusal.fault) }
+    ensures counts { IsOk result → HasCounted (F.refusals files.old)
+        → HasCounted (F.refusals files.new) }
 {
     match lookup {
         Lookup::Stored(_) => Ok(()),
@@ -110,7 +126,10 @@ fn store_link<F: Files>(lookup: Lookup<'_>, files: &mut F) -> Result<(), Refusal
 
 /// Makes the refusal of a link to this File ID. `origin` names the file that was to get it.
 fn refusal_of(fault: LinkFault, file: FileId, origin: Subject) -> Refusal
-    ensures { (paths : ℕ) → IsAmong paths origin → IsOfWork paths result }
+    ensures work { (paths : ℕ) → IsAmong paths origin → IsOfWork paths result }
+    ensures absent { fault ≡ LinkFault.Absent → result.fault ≡ ProgramFault.Absent }
+    ensures changed { fault ≡ LinkFault.Changed → result.fault ≡ ProgramFault.Changed }
+    ensures taken { fault ≡ LinkFault.Taken → result.fault ≡ ProgramFault.Create }
 {
     match fault {
         LinkFault::Changed => Refusal::of(origin, ProgramFault::Changed),

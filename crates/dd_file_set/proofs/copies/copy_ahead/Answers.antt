@@ -3,6 +3,7 @@ use Rattle.std.proofs.Common.{subst}
 use Rattle.dd_files.proofs.KeptFiles.{held_published, said_grown, said_then}
 use Rattle.dd_filing.specs.Filing.{IsFileAs}
 use Rattle.dd_filing.specs.declared.agreeing.Filed.{Filed}
+use Rattle.dd_file_set.proofs.DueFaults.{ahead_due, due_copy}
 use Rattle.dd_file_set.proofs.Fronts.{ahead_front}
 use Rattle.dd_file_set.proofs.ImagePlaces.{image_path}
 use Rattle.dd_file_set.specs.Made.{IsImagePath}
@@ -48,3 +49,10 @@ returns-in-Err-clause-adds g c =
     in
     said_grown (IsImagePath c.args.image.now.folder.now) start.path front.bytes _ _ _ (image_path start) start.free
     start.started (g.met.F.Files.written_grows _ _ front.bytes front.stays front.holds)
+
+pub returns-in-Err-clause-due : goal.returns-in-Err-clause-due
+returns-in-Err-clause-due g c =
+    let is = c.refusal_of.ensures in
+    due_copy g.F.In.Read _ _ c.in-Err.fault _ _ c.refusal_of.result
+    (ahead_due g.F.In.Read g.F.Write _ _ c.args.image.now.planned.now c.in-Err.fault c.args.ahead.now c.in-Err.ensures
+    c.requires.due) is.memory is.unread is.changed is.unsent

@@ -19,6 +19,7 @@ loop-record-preserved g c =
           (omega (arith, within)) (rw (← c.record-item.is) (c.in_ok-copy_record.ensures.copied cc))
           c.loop-record.invariant.made;
       known = c.in_ok-copy_record.ensures.known cc;
+      ahead = c.in_ok-copy_record.ensures.ahead cc;
       adds = said_then (IsImagePath c.args.set.now.folder.now) _ _ _ c.loop-record.invariant.adds
           c.copy_record.ensures.adds;
     }

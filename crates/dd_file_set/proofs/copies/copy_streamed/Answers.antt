@@ -3,6 +3,7 @@ use Rattle.std.proofs.Common.{subst}
 use Rattle.dd_files.proofs.KeptFiles.{held_published, said_grown, said_then}
 use Rattle.dd_filing.specs.Filing.{IsFileAs}
 use Rattle.dd_filing.specs.declared.agreeing.Filed.{Filed}
+use Rattle.dd_file_set.proofs.DueFaults.{due_copy, still_counted, streamed_due}
 use Rattle.dd_file_set.proofs.Fronts.{copy_front}
 use Rattle.dd_file_set.proofs.KnownAhead.{one_given}
 use Rattle.dd_file_set.proofs.ImagePlaces.{image_path}
@@ -53,3 +54,17 @@ returns-clause-adds g c =
     said_grown (IsImagePath c.args.image.now.folder.now) start.path front.bytes _ _ _ (image_path start)
     (rw c.in_ok-reader.ensures.kept at start.free) (rw c.in_ok-reader.ensures.kept at start.started)
     (g.met.F.Files.written_grows _ _ front.bytes front.stays front.holds)
+
+pub returns-in-Ok-clause-counts : goal.returns-in-Ok-clause-counts
+returns-in-Ok-clause-counts g c = λ done counted.
+    let went = c.in-Ok.ensures.answered.1.1 in
+    c.end_copy.ensures.counts done (still_counted _ _ (g.met.F.Files.same_refusals _ _ went.stays)
+    (c.in_ok-start_copy.ensures.counts (cc) (c.in_ok-reader.ensures.counts counted)))
+
+pub returns-clause-due : goal.returns-clause-due
+returns-clause-due g c =
+    let is = c.refusal_of.ensures in
+    let h = c.in-Err.ensures in
+    due_copy g.F.In.Read _ _ c.in-Err.fault _ _ c.refusal_of.result
+    (streamed_due g.F.In.Read g.F.Write _ _ c.in-Err.fault _ h.given _ _ c.file_image.new.reader h.answered)
+    is.memory is.unread is.changed is.unsent

@@ -1,5 +1,7 @@
 -- What is known of the files so far is so of the picks so far.
 use Rattle.std.proofs.Common.{◌≡◌, length}
+use Rattle.dd_files.specs.Reasons.{HasCounted, HasFailedReader}
+use Rattle.dd_filing.specs.Ahead.{AreDue}
 use Rattle.dd_file_set.specs.ReadingAhead.{KnowsNext}
 use Rattle.dd_file_set.proofs.copies.read_ahead.Given as goal
 
@@ -9,4 +11,6 @@ invariant-loop-pick g l = record {
   count : length l.ahead.files ≡ l.pick-index;
   known : KnowsNext (g.O.Origins.stands_at l.origins) l.picks l.ahead (g.F.Files.held l.files);
   kept : g.F.Files.held l.files ≡ g.F.Files.held l.fn.files;
+  due : AreDue (HasCounted (g.F.Files.refusals l.files)) (HasFailedReader g.F.In.Read) l.ahead;
+  counts : HasCounted (g.F.Files.refusals l.fn.files) → HasCounted (g.F.Files.refusals l.files);
 }

@@ -6,7 +6,7 @@ use Rattle.dd_file_set.specs.Made.{IsAsStored, IsImagePath}
 use Rattle.dd_file_set.proofs.links.link_image.Goals as goal
 
 pub returns-in-Err-clause-refusal : goal.returns-in-Err-clause-refusal
-returns-in-Err-clause-refusal g c = c.refusal_of.ensures _ (c.subject.ensures.among c.requires)
+returns-in-Err-clause-refusal g c = c.refusal_of.ensures.work _ (c.subject.ensures.among c.requires)
 
 pub returns-clause-linked : goal.returns-clause-linked
 returns-clause-linked g c = λ done. record {
