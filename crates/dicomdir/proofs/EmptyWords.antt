@@ -7,7 +7,7 @@ use Rattle.dd_line.specs.Requests.{IsRequested, paths_of, read_of, written_of}
 use Rattle.dd_line.specs.declared.request.Request.{Request}
 use Rattle.dd_line.proofs.RequestLemmas.{says_parts}
 use Rattle.std.proofs.Common.{subst, sym}
-use Rattle.std.specs.Prelude.{Contains, IfSome}
+use Rattle.std.specs.Prelude.{Contains, IfSome, IsSomeAnd}
 use Rattle.std.specs.declared.alloc.Global.{Global}
 use Rattle.std.proofs.lemmas.List.{get_or-map, length-map}
 use Rattle.std.proofs.lemmas.Option.{same_Some}
@@ -61,3 +61,28 @@ none_empty r folder sources (at, is) = go (written_of r) folder is
       | inl out ↦ folder out
       | inr later ↦ sources later.0 later.1
     ]
+
+-- it has one where either is
+pub some_empty : (r : Request) (seen : Option (Bor (List ℕ)))
+    → option_map (λ folder. folder.now) seen ≡ option_map string_bytes (written_of r)
+    → IsSomeAnd seen (λ folder. folder.now ≡ []) ⊎ ((at : ℕ) × IsEmptyAt (read_of r) at) → RequestsEmptyPath r
+some_empty r seen is empty = go (written_of r) seen is empty
+  where
+    go : (w : Option (String Global)) (seen : Option (Bor (List ℕ)))
+        → option_map (λ folder. folder.now) seen ≡ option_map string_bytes w
+        → IsSomeAnd seen (λ folder. folder.now ≡ []) ⊎ ((at : ℕ) × IsEmptyAt (read_of r) at)
+        → (at : ℕ) × IsEmptyAt (option_map_or (λ folder. folder ∷ read_of r) w (read_of r)) at
+    go None None is (inl folder) = absurd folder
+    go None (Some path) is empty = absurd (cc)
+    go None None is (inr later) = later
+    go (Some written) None is empty = absurd (cc)
+    go (Some written) (Some path) is (inl folder) = (
+      0,
+      record {
+        within = omega arith;
+        empty = λ otherwise. sym (same_Some path.now (string_bytes written) is) ∙ folder;
+      },
+    )
+    go (Some written) (Some path) is (inr later) =
+        let within = later.1.within in
+        (suc later.0, record { within = omega arith; empty = later.1.empty })

@@ -3,8 +3,11 @@ mod BadNames
 mod BadUids
 mod CountLines
 mod DryRuns
+mod Due
+mod DueRefusals
 mod EmptyWords
 mod EngineMade
+mod FaultLines
 mod FirstPaths
 mod HavingPaths
 mod InPiles
@@ -19,6 +22,7 @@ mod LookedUp
 mod MadeLast
 mod Masking
 mod NameParts
+mod NamesDue
 mod NoteObjects
 mod OnePaths
 mod PastFailures
@@ -27,6 +31,7 @@ mod PilesMade
 mod PilesOfSources
 mod Piling
 mod PrintedLines
+mod RefusedRuns
 mod SaidByFiles
 mod SaidByLists
 mod SaidBySets

@@ -1,6 +1,7 @@
 pub mod Done
 pub mod DryRun
 pub mod EmptyPaths
+pub mod Faults
 pub mod FileSupply
 pub mod From
 pub mod Headline
@@ -17,6 +18,8 @@ pub mod Noted
 pub mod Origins
 pub mod Prints
 pub mod Publishes
+pub mod Reasons
+pub mod Refused
 pub mod Said
 pub mod Stages
 pub mod Sum

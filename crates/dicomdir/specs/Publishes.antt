@@ -20,6 +20,8 @@ use Rattle.dd_line.specs.Line.{words_of}
 use Rattle.dd_lines.specs.Text.{TakesText}
 use Rattle.dd_pile.specs.Lists.{IfList}
 use Rattle.dd_pile.specs.Paths.{IsCopyPath}
+use Rattle.dd_pile.specs.declared.pile_fault.PileFault.{PileFault}
+use Rattle.dd_pile.specs.declared.pile_fault.PileFault.TheVariants as list
 use Rattle.dd_staged.specs.Sources.{Source}
 use Rattle.dd_staged.specs.Stages.{IsStage}
 use Rattle.dicomdir.specs.Done.{ending_text, images_text}
@@ -28,6 +30,8 @@ use Rattle.dicomdir.specs.Noted.{IsNotedIndex}
 use Rattle.dicomdir.specs.Prints.{size_of}
 use Rattle.dicomdir.specs.Said.{SaysNotes}
 use Rattle.dd_file_set.specs.Standing.{StandsWhole}
+use Rattle.dd_file_set.specs.declared.refusal.ProgramFault.{ProgramFault}
+use Rattle.dd_file_set.specs.declared.refusal.ProgramFault.TheVariants as faults
 use Rattle.dicomdir.specs.declared.making.Ending.TheVariants.{Done}
 use Rattle.dicomdir.specs.declared.piles.Place.{Place}
 use Rattle.dicomdir.specs.declared.piles.Piled.{Piled}
@@ -62,6 +66,14 @@ pub record AreShown (names shown : List (List ℕ)) : Type 0 where
   pub count : length shown ≡ length names
   pub each : (at : ℕ) → at < length names → IsUtf8 (slice_index_or names at [])
       → slice_index_or shown at [] ≡ slice_index_or names at []
+
+-- the fault of a run that this fault of a list refuses
+abbrev pub fault_of : PileFault → ProgramFault
+fault_of list.TooLong = faults.TooLong
+fault_of (list.BadStage item) = faults.BadStage item
+fault_of list.Memory = faults.Memory
+fault_of list.Absent = faults.Absent
+fault_of list.Unread = faults.Unread
 
 -- ---- copies
 

@@ -2,12 +2,16 @@
 use Rattle.std.specs.Prelude.{◌≡◌, ◌∷◌, ℕ, List, [], Option, codes, map}
 use Rattle.std.specs.Fmt.{decimal}
 use Rattle.dd_elem.specs.declared.device.Write.{Ghosts as WriteOf}
+use Rattle.dd_file_set.specs.declared.refusal.ProgramFault.{ProgramFault}
+use Rattle.dd_file_set.specs.declared.refusal.ProgramFault.TheVariants as faults
 use Rattle.dd_files.specs.Files.{Held}
 use Rattle.dd_json.specs.declared.value.Style.{Style}
 use Rattle.dd_json.specs.declared.value.Style.TheVariants.{Text, Json}
 use Rattle.dd_json.specs.Values.{count, json_line, object_of}
 use Rattle.dd_lines.specs.Text.{TakesText}
 use Rattle.dd_pile.specs.Piles.{MakesPile}
+use Rattle.dd_pile.specs.declared.refusal.StageRefusal.{StageRefusal}
+use Rattle.dd_pile.specs.declared.refusal.StageRefusal.TheVariants as refusals
 use Rattle.dd_pile.specs.declared.source.StageSource.{StageSource}
 use Rattle.dd_pile.specs.declared.sum.StageSum.{StageSum}
 use Rattle.dicomdir.specs.From.{looked_up}
@@ -28,6 +32,22 @@ staged_json sum = object_of (
 abbrev pub staged_text : Style → StageSum → List ℕ
 staged_text Text sum = staged_words sum
 staged_text Json sum = json_line (staged_json sum)
+
+-- ---- why none is made
+
+-- the fault of a run that this refusal of its pile refuses
+abbrev pub fault_of : StageRefusal → ProgramFault
+fault_of (refusals.Absent at) = faults.Absent
+fault_of (refusals.Unread at) = faults.Unread
+fault_of (refusals.CopyUnmade at) = faults.Create
+fault_of (refusals.FolderUnmade at) = faults.Folder
+fault_of (refusals.CopyUnsent at) = faults.Unsent
+fault_of refusals.PileUnmade = faults.Folder
+fault_of refusals.ListUnmade = faults.Create
+fault_of refusals.ListUnsent = faults.Unsent
+fault_of refusals.Unstored = faults.Unsent
+fault_of refusals.ListTooLarge = faults.ListTooLarge
+fault_of refusals.Memory = faults.Memory
 
 -- ---- what is made
 

@@ -1,4 +1,5 @@
-ghost use Rattle.std.specs.Prelude.{◌≡◌};
+ghost use Rattle.std.specs.Prelude.{◌≡◌, IfSome, false, true};
+ghost use Rattle.dd_files.specs.Reasons.{HasCounted};
 
 use dd_elem::{Counts, Read};
 use std::io;
@@ -9,16 +10,23 @@ pub(crate) struct CountedReader<R: Read + Drop> {
     reader: R,
     counts: Counts,
     bytes: u64,
+    /// Whether a read of the reader itself failed.
+    has_failed: bool,
+    ghost failed: { has_failed ≡ true → HasCounted (R.failures reader) },
 }
 
 impl<R: Read + Drop> CountedReader<R> {
     pub(crate) fn new(reader: R) -> Self
-        ensures { result ≡ record { reader = reader; counts = record { calls = 0; failures = 0 }; bytes = 0 } }
+        ensures reader { result.reader ≡ reader }
+        ensures counts { result.counts ≡ record { calls = 0; failures = 0 } }
+        ensures bytes { result.bytes ≡ 0 }
+        ensures failed { result.has_failed ≡ false }
     {
         CountedReader {
             reader,
             counts: Counts::new(),
             bytes: 0,
+            has_failed: false,
         }
     }
 
@@ -33,6 +41,17 @@ impl<R: Read + Drop> CountedReader<R> {
         ensures { result ≡ self.now.bytes }
     {
         self.bytes
+    }
+
+    /// Gives the reader where a read of it failed.
+    pub(crate) fn into_failed(self) -> Option<R>
+        ensures { IfSome result (λ reader. HasCounted (R.failures reader)) }
+    {
+        if self.has_failed {
+            Some(self.reader)
+        } else {
+            None
+        }
     }
 }
 
@@ -51,6 +70,9 @@ impl<R: Read + Drop> Read for CountedReader<R> {
     fn read(&mut self, buf: &mut [u8]) -> io::Result<usize> {
         self.counts.begin()?;
         let done = self.reader.read(buf);
+        if done.is_err() {
+            self.has_failed = true;
+        }
         let n = self.counts.settle(done)?;
         self.bytes = self.bytes.saturating_add(n as u64);
         Ok(n)

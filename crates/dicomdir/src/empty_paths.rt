@@ -1,4 +1,4 @@
-ghost use Rattle.std.specs.Prelude.{◌≡◌, ◌<◌, ℕ, [], None, Some, IfSome, length};
+ghost use Rattle.std.specs.Prelude.{◌≡◌, ◌<◌, ℕ, [], None, Some, IfSome, length, ◌⊎◌, IsSomeAnd};
 ghost use Rattle.dicomdir.specs.EmptyPaths.{IsEmptyAt, IsFirstEmpty};
 ghost use Rattle.dd_file_set.specs.Refusal.{IsOfWork};
 
@@ -28,6 +28,8 @@ pub(crate) fn empty_path(folder: Option<&str>, sources: &[String]) -> Option<Ref
         → result ≡ Some (record { subject = Subject.Source at; fault = ProgramFault.Absent }) }
     ensures none { IfSome folder.entry (λ folder. ¬ (folder.now ≡ []))
         → ((at : ℕ) → ¬ IsEmptyAt sources.now at) → result ≡ None }
+    ensures some { IfSome result (λ _. IsSomeAnd folder.entry (λ folder. folder.now ≡ [])
+        ⊎ ((at : ℕ) × IsEmptyAt sources.now at)) }
     ensures work { IfSome result (λ refusal. IsOfWork (length sources.now) refusal) }
     ensures folders { result ≡ None → IfSome folder.entry (λ folder. ¬ (folder.now ≡ [])) }
     ensures sources { result ≡ None → (at : ℕ) → ¬ IsEmptyAt sources.now at }

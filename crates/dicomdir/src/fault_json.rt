@@ -1,14 +1,14 @@
 //! Faults as JSON objects.
-ghost use Rattle.std.specs.Prelude.{◌≡◌, OnErr, OnOk};
+ghost use Rattle.std.specs.Prelude.{◌≡◌, ℕ, List, OnErr, OnOk};
 ghost use Rattle.serde_json.specs.Data.{Data};
 ghost use Rattle.dd_json.specs.Values.{json_line, value_of};
 ghost use Rattle.dd_lines.specs.Text.{FailsInText, TakesText};
+ghost use Rattle.dicomdir.specs.Faults.{refusal_json};
 ghost use Rattle.dicomdir.specs.Inspecting.{broken_json};
 
 use crate::hints::ShownHints;
 use dd_elem::Write;
-use dd_json::{Json, add_json, add_member_name, add_raw, print_json};
-use dd_lines::LineBuffer;
+use dd_json::{Json, print_json};
 use std::fmt;
 
 /// A member of an object: its name and its value.
@@ -95,47 +95,88 @@ fn print_broken_for<W: Write>(fault: Json<'_>, to: &mut W) -> fmt::Result
     )
 }
 
-/// Prints that a run is refused for the fault of these words. The path is a string, or null.
-pub(crate) fn print_fault_json<W: Write>(
-    path: Json<'_>,
-    words: &str,
-    hints: Option<&ShownHints>,
+/// Prints that a run is refused for the fault of these words. The path is a string, or null. The hints are the system's
+/// words, if there are any, and what to do first.
+pub(crate) fn print_fault_json<'t, W: Write>(
+    path: Json<'t>,
+    words: &'t str,
+    hints: Option<&'t ShownHints>,
     to: &mut W,
-) -> fmt::Result {
-    let mut lines = LineBuffer::new(to);
-    add_raw("{\"line\":\"FAULT\"", &mut lines)?;
-    add_next("path", &path, &mut lines)?;
-    add_fault(FaultWords::of(words), &mut lines)?;
-    if let Some(hints) = hints {
-        add_hints(hints, &mut lines)?;
-    }
-    add_raw("}\n", &mut lines)?;
-    lines.flush()
-}
-
-fn add_fault<W: Write>(fault: FaultWords<'_>, lines: &mut LineBuffer<'_, W>) -> fmt::Result {
+) -> fmt::Result
+    ensures sent { OnOk result ((fault : Data) × (hints : List (List ℕ × Data))
+        × TakesText W.Write to.old to.new (json_line (refusal_json (value_of path.entry) fault hints))) }
+    ensures unsent { OnErr result ((fault : Data) × (hints : List (List ℕ × Data))
+        × FailsInText W.Write to.old to.new (json_line (refusal_json (value_of path.entry) fault hints))) }
+{
+    let fault = FaultWords::of(words);
     match fault.cause() {
-        None => add_next("fault", &Json::Object(&fault.members()), lines),
+        None => print_fault_for(path, Json::Object(&fault.members()), hints, to),
         Some(cause) => {
             let cause = cause.named();
-            add_next("fault", &Json::Object(&fault.members_with(&cause)), lines)
+            print_fault_for(path, Json::Object(&fault.members_with(&cause)), hints, to)
         }
     }
 }
 
-/// Adds the system's words, if there are any, and what to do first.
-fn add_hints<W: Write>(hints: &ShownHints, lines: &mut LineBuffer<'_, W>) -> fmt::Result {
-    let cause = hints.cause.as_str();
-    if !cause.is_empty() {
-        add_next("cause", &Json::Text(cause), lines)?;
+fn print_fault_for<'t, W: Write>(
+    path: Json<'t>,
+    fault: Json<'t>,
+    hints: Option<&'t ShownHints>,
+    to: &mut W,
+) -> fmt::Result
+    ensures sent { OnOk result ((hints : List (List ℕ × Data)) × TakesText W.Write to.old to.new
+        (json_line (refusal_json (value_of path.entry) (value_of fault.entry) hints))) }
+    ensures unsent { OnErr result ((hints : List (List ℕ × Data)) × FailsInText W.Write to.old to.new
+        (json_line (refusal_json (value_of path.entry) (value_of fault.entry) hints))) }
+{
+    match hints {
+        None => print_json(
+            &Json::Object(&[
+                ("line", Json::Text("FAULT")),
+                ("path", path),
+                ("fault", fault),
+            ]),
+            to,
+        ),
+        Some(hints) => {
+            let step = [hints.before(), hints.path.as_str(), hints.after()];
+            print_hinted(path, fault, hints.cause.as_str(), &step, to)
+        }
     }
-    let step = [hints.before(), hints.path.as_str(), hints.after()];
-    add_next("help", &Json::Texts(&step), lines)
 }
 
-/// Adds a member that is not the first of its object.
-fn add_next<W: Write>(name: &str, value: &Json<'_>, lines: &mut LineBuffer<'_, W>) -> fmt::Result {
-    add_raw(",", lines)?;
-    add_member_name(name, lines)?;
-    add_json(value, lines)
+/// Prints the object with the system's words, if there are any, and with what to do first.
+fn print_hinted<'t, W: Write>(
+    path: Json<'t>,
+    fault: Json<'t>,
+    cause: &'t str,
+    step: &'t [&'t str],
+    to: &mut W,
+) -> fmt::Result
+    ensures sent { OnOk result ((hints : List (List ℕ × Data)) × TakesText W.Write to.old to.new
+        (json_line (refusal_json (value_of path.entry) (value_of fault.entry) hints))) }
+    ensures unsent { OnErr result ((hints : List (List ℕ × Data)) × FailsInText W.Write to.old to.new
+        (json_line (refusal_json (value_of path.entry) (value_of fault.entry) hints))) }
+{
+    if cause.is_empty() {
+        return print_json(
+            &Json::Object(&[
+                ("line", Json::Text("FAULT")),
+                ("path", path),
+                ("fault", fault),
+                ("help", Json::Texts(step)),
+            ]),
+            to,
+        );
+    }
+    print_json(
+        &Json::Object(&[
+            ("line", Json::Text("FAULT")),
+            ("path", path),
+            ("fault", fault),
+            ("cause", Json::Text(cause)),
+            ("help", Json::Texts(step)),
+        ]),
+        to,
+    )
 }

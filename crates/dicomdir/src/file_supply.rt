@@ -1,13 +1,17 @@
 //! Files as sources.
-ghost use Rattle.std.specs.Prelude.{◌≡◌, length, map, string_bytes, Option};
+ghost use Rattle.std.proofs.Props.{props};
+ghost use Rattle.std.specs.Prelude.{◌≡◌, ℕ, IfSome, length, map, string_bytes, true, None, Option};
 ghost use Rattle.std.specs.Borrow.{GName};
+ghost use Rattle.dd_engine.specs.Indexed.{IsNamed};
+ghost use Rattle.dd_engine.specs.declared.engine_fault.EngineFault.TheVariants as faults;
 ghost use Rattle.dd_files.specs.Files.{Held};
+ghost use Rattle.dd_files.specs.Reasons.{HasCounted, HasFailedReader};
 ghost use Rattle.dicomdir.specs.FileSupply.{contents_by, counts_at, is_one};
 ghost use Rattle.dicomdir.specs.ListedNames.{AreRising};
 
 use crate::counted_reader::CountedReader;
 use crate::source_counts::SourceCounts;
-use dd_engine::Supply;
+use dd_engine::{EngineFault, Supply};
 use dd_files::{Files, NotThere, Progress};
 use dd_slots::Lanes;
 
@@ -17,8 +21,14 @@ pub(crate) struct FileSupply<'a, F: Files> {
     counts: &'a mut [SourceCounts],
     /// The numbers of the sources that have no path, in rising order: these are not there.
     bad_names: &'a [usize],
+    /// Whether the files refused to open a source.
+    was_refused: bool,
+    /// The reader that failed last.
+    failed: &'a mut Option<F::In>,
     ghost counted: { length counts.now ≡ length paths.now },
     ghost rising: { AreRising bad_names.now },
+    ghost refused: { was_refused ≡ true → HasCounted (F.refusals files.now) },
+    ghost unread: { IfSome failed.now (λ reader. HasCounted (F.In.failures reader)) } by { Prim.hlevel props },
 }
 
 // By hand, so that its contract says what becomes of the files.
@@ -31,20 +41,24 @@ impl<F: Files> Drop for FileSupply<'_, F> {
             paths: _,
             counts: _counts,
             bad_names: _,
+            was_refused: _,
+            failed: _failed,
         } = self;
     }
 }
 
 impl<'a, F: Files> FileSupply<'a, F> {
-    /// The files at these paths, each with its counts.
+    /// The files at these paths, each with its counts. A reader that fails is put to `failed`.
     pub(crate) fn new(
         files: &'a mut F,
         paths: &'a [String],
         counts: &'a mut [SourceCounts],
         bad_names: &'a [usize],
+        failed: &'a mut Option<F::In>,
     ) -> FileSupply<'a, F>
         requires counted { length counts.old ≡ length paths.now }
         requires rising { AreRising bad_names.now }
+        requires none { failed.old ≡ None }
         ensures reference { result.files.ghost_name ≡ files.entry.ghost_name }
         ensures files { result.files.now ≡ files.old }
         ensures paths { result.paths.now ≡ paths.now }
@@ -56,6 +70,22 @@ impl<'a, F: Files> FileSupply<'a, F> {
             paths,
             counts,
             bad_names,
+            was_refused: false,
+            failed,
+        }
+    }
+
+    /// Gives the fault of an engine that read these sources, where the files or a reader gave cause for it. A count at
+    /// its last value also refuses a source: that is as memory at its end.
+    pub(crate) fn said(&self, fault: EngineFault) -> EngineFault
+        ensures named { (sources : ℕ) → IsNamed sources fault → IsNamed sources result }
+        ensures absent { (at : ℕ) → result ≡ faults.Absent at → HasCounted (F.refusals self.now.files.now) }
+        ensures unread { (at : ℕ) → result ≡ faults.Unread at → HasFailedReader F.In.Read }
+    {
+        match fault {
+            EngineFault::Absent(_) if !self.was_refused => EngineFault::Memory,
+            EngineFault::Unread(_) if self.failed.is_none() => EngineFault::Memory,
+            said => said,
         }
     }
 }
@@ -109,6 +139,7 @@ impl<F: Files + Progress> Supply for FileSupply<'_, F> {
                 self.counts[at] = counts;
                 return Ok(CountedReader::new(reader));
             }
+            self.was_refused = true;
         }
         counts.refuse();
         self.counts[at] = counts;
@@ -120,6 +151,9 @@ impl<F: Files + Progress> Supply for FileSupply<'_, F> {
             let mut counts = self.counts[at];
             counts.take_back(used.counts(), used.bytes());
             self.counts[at] = counts;
+        }
+        if let Some(reader) = used.into_failed() {
+            *self.failed = Some(reader);
         }
         self.files.advance();
     }

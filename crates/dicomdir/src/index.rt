@@ -1,9 +1,11 @@
-ghost use Rattle.std.specs.Prelude.{◌≡◌, ◌≢◌, ◌≤◌, ◌↔◌, ℕ, List, IfErr, IfOk, IsErr, IsOk, IsTrue, OnOk};
+ghost use Rattle.std.specs.Prelude.{◌≡◌, ◌≢◌, ◌≤◌, ◌↔◌, ◌⊎◌, ℕ, List, IfErr, IfOk, IsErr, IsOk, IsTrue, OnOk};
 ghost use Rattle.std.specs.Prelude.{false, length, true};
 ghost use Rattle.dd_elem.specs.Device.{HasFailed};
 ghost use Rattle.dd_engine.specs.Indexed.{IsNamed, IsWithin};
 ghost use Rattle.dd_engine.specs.Noting.{AreBelow, IsBelow};
+ghost use Rattle.dd_engine.specs.declared.engine_fault.EngineFault.TheVariants as engine;
 ghost use Rattle.dd_files.specs.Keeping.{IfSaid};
+ghost use Rattle.dd_files.specs.Reasons.{HasCounted, HasFailedReader};
 ghost use Rattle.dd_line.specs.Line.{words_of};
 ghost use Rattle.dd_lines.specs.Text.{TakesText};
 ghost use Rattle.dicomdir.specs.Indexes.{DoneIndexes, Indexes, IsIndexStatus, has_failed, status_past};
@@ -12,6 +14,7 @@ ghost use Rattle.dicomdir.specs.ListedNames.{AreOfSources, HavePaths};
 ghost use Rattle.dicomdir.specs.Noted.{IsNotedIndex};
 ghost use Rattle.dicomdir.specs.Prints.{PrintsIndex};
 ghost use Rattle.dd_file_set.specs.Refusal.{IsOfWork};
+ghost use Rattle.dicomdir.specs.Reasons.{IsDue, IsOfEngine};
 ghost use Rattle.dicomdir.specs.Said.{SaysNotes};
 
 use crate::dates::show_dates;
@@ -45,6 +48,9 @@ pub(crate) fn run_index<F: Files + Progress + Hints, O: Write>(
 ) -> Result<u8, Refusal>
     requires { AreOfSources (words_of sources.now) making.bad_names.now }
     ensures refusal { IfErr result (IsOfWork (length sources.now)) }
+    ensures due { IfErr result (λ refusal. IsDue F.In.Read (F.refusals files.new) (F.Write.failures files.new)
+        making.entry.strict refusal.fault) }
+    ensures failed { IfOk result (λ status. status ≡ 1 → HasFailed (O.failures out.old) (O.failures out.new)) }
     ensures status { IfOk result (IsIndexStatus making.entry.keep_going) }
     ensures dry { making.entry.dry_run ≡ true → F.held files.new ≡ F.held files.old }
     ensures last { IfSaid (MakesDirectoryLast making.entry.folder.now) (F.held files.old) (F.held files.new) }
@@ -78,6 +84,9 @@ fn index_sources<F: Files + Progress + Hints, O: Write>(
 ) -> Result<u8, Refusal>
     requires { AreOfSources (words_of sources.now) making.bad_names.now }
     ensures refusal { IfErr result (IsOfWork (length sources.now)) }
+    ensures due { IfErr result (λ refusal. IsDue F.In.Read (F.refusals files.new) (F.Write.failures files.new)
+        making.entry.strict refusal.fault) }
+    ensures failed { IfOk result (λ status. status ≡ 1 → HasFailed (O.failures out.old) (O.failures out.new)) }
     ensures status { IfOk result (IsIndexStatus making.entry.keep_going) }
     ensures dry { making.entry.dry_run ≡ true → F.held files.new ≡ F.held files.old }
     ensures last { IfSaid (MakesDirectoryLast making.entry.folder.now) (F.held files.old) (F.held files.new) }
@@ -200,18 +209,28 @@ fn index_files<F: Files + Progress>(
     ensures below { IfOk result (λ past.
         AreBelow (λ at. at) (length sources.now) past.noted.notes.left_out.items) }
     ensures kept { F.held files.new ≡ F.held files.old }
+    ensures absent { IfErr result (λ noted. (at : ℕ)
+        → noted.fault ≡ engine.Absent at → HasCounted (F.refusals files.new)) }
+    ensures unread { IfErr result (λ noted. (at : ℕ)
+        → noted.fault ≡ engine.Unread at → HasFailedReader F.In.Read) }
 {
-    let mut supply = FileSupply::new(files, sources, counts, making.bad_names);
+    let mut failed = None;
+    let mut supply = FileSupply::new(files, sources, counts, making.bad_names, &mut failed);
     let limits = Limits::of_bytes(making.max_bytes);
     let Making { alloc, names, .. } = making;
     if making.keep_going {
         return index_past_failures(alloc, &mut supply, &names.choice, limits, SOURCE_LIMIT);
     }
-    let noted = index_with_notes(alloc, &mut supply, &names.choice, limits, SOURCE_LIMIT)?;
-    Ok(PastFailures {
-        noted,
-        absent: Vec::new(alloc),
-    })
+    match index_with_notes(alloc, &mut supply, &names.choice, limits, SOURCE_LIMIT) {
+        Ok(noted) => Ok(PastFailures {
+            noted,
+            absent: Vec::new(alloc),
+        }),
+        Err(noted) => Err(NotedFault {
+            fault: supply.said(noted.fault),
+            conflict: noted.conflict,
+        }),
+    }
 }
 
 fn counts_of(alloc: Global, sources: usize) -> Result<Vec<SourceCounts>, Memory>
@@ -233,7 +252,10 @@ fn refuse<O: Write>(
 ) -> Refusal
     requires named { IsNamed (length sources.now) noted.now.fault }
     requires conflict { IsBelow (λ at. at) (length sources.now) noted.now.conflict }
-    ensures { IsOfWork (length sources.now) result }
+    ensures refusal { IsOfWork (length sources.now) result }
+    ensures fault { IsOfEngine result.fault
+        ⊎ ((at : ℕ) × (noted.now.fault ≡ engine.Absent at) × (result.fault ≡ ProgramFault.Absent))
+        ⊎ ((at : ℕ) × (noted.now.fault ≡ engine.Unread at) × (result.fault ≡ ProgramFault.Unread)) }
 {
     match noted.fault {
         EngineFault::Memory => Refusal::memory(),

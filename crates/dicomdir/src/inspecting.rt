@@ -1,9 +1,11 @@
 //! The commands that read one file-set.
-ghost use Rattle.std.specs.Prelude.{◌≡◌, ◌<◌, ◌≤◌, ◌⊎◌, ℕ, List, IfErr, IfOk, OnErr, OnOk, string_bytes};
+ghost use Rattle.std.specs.Prelude.{◌≡◌, ◌<◌, ◌≤◌, ◌⊎◌, ℕ, List, IfErr, IfOk, OnErr, OnOk, false, string_bytes};
+ghost use Rattle.dd_elem.specs.Device.{HasFailed};
 ghost use Rattle.dd_lines.specs.Text.{FailsInText, TakesText};
 ghost use Rattle.dicomdir.specs.Inspecting.{ChecksSet, IsBrokenLine, ListsSet, comparison_by, form_by};
 ghost use Rattle.dicomdir.specs.Inspecting.{style_by};
 ghost use Rattle.dd_file_set.specs.Refusal.{IsOfWork};
+ghost use Rattle.dicomdir.specs.Reasons.{IsDue};
 
 use crate::fault_json::print_broken_json;
 use crate::refusal::Words;
@@ -71,6 +73,9 @@ pub(crate) fn run_check<F: Files + Progress, O: Write>(
     out: &mut O,
 ) -> Result<u8, Refusal>
     ensures refusal { (paths : ℕ) → 0 < paths → IfErr result (IsOfWork paths) }
+    ensures due { IfErr result (λ refusal. IsDue F.In.Read (F.refusals files.new) (F.Write.failures files.new)
+        false refusal.fault) }
+    ensures failed { IfOk result (λ status. status ≡ 1 → HasFailed (O.failures out.old) (O.failures out.new)) }
     ensures status { IfOk result (λ status. (status ≤ 1) ⊎ (status ≡ 3)) }
     ensures checks { IfOk result (λ status. ChecksSet F.In.Read check.entry.folder.now (F.held files.old)
         check.entry.comparison check.entry.style O.Write status
@@ -124,6 +129,9 @@ pub(crate) fn run_list<F: Files, O: Write>(
     out: &mut O,
 ) -> Result<u8, Refusal>
     ensures refusal { (paths : ℕ) → 0 < paths → IfErr result (IsOfWork paths) }
+    ensures due { IfErr result (λ refusal. IsDue F.In.Read (F.refusals files.new) (F.Write.failures files.new)
+        false refusal.fault) }
+    ensures failed { IfOk result (λ status. status ≡ 1 → HasFailed (O.failures out.old) (O.failures out.new)) }
     ensures status { IfOk result (λ status. status ≤ 1) }
     ensures lists { IfOk result (λ status. ListsSet O.Write listing.entry.style listing.entry.form
         listing.entry.folder.now (F.held files.old) status out.old out.new) }

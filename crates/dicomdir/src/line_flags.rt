@@ -1,13 +1,16 @@
 //! The flags that every command may have.
 ghost use Rattle.std.specs.Prelude.{◌≡◌};
 ghost use Rattle.dd_line.specs.Requests.{is_json};
+ghost use Rattle.dicomdir.specs.Faults.{is_quiet, is_verbose};
 ghost use Rattle.dicomdir.specs.Inspecting.{style_by};
 
 use crate::inspecting::style_for;
 use dd_json::Style;
 use dd_line::Request;
 
-pub(crate) fn is_quiet(request: &Request) -> bool {
+pub(crate) fn is_quiet(request: &Request) -> bool
+    ensures { result ≡ is_quiet request.now }
+{
     match request {
         Request::Index(index) => index.new_set.quiet,
         Request::Merge(merge) => merge.new_set.quiet,
@@ -19,7 +22,9 @@ pub(crate) fn is_quiet(request: &Request) -> bool {
     }
 }
 
-pub(crate) fn is_verbose(request: &Request) -> bool {
+pub(crate) fn is_verbose(request: &Request) -> bool
+    ensures { result ≡ is_verbose request.now }
+{
     match request {
         Request::Index(index) => index.new_set.verbose,
         Request::Merge(merge) => merge.new_set.verbose,

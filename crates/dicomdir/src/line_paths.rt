@@ -1,6 +1,7 @@
 //! The paths that a command line gives.
 ghost use Rattle.std.specs.Prelude.{◌≡◌, IfOk, option_map, string_bytes};
 ghost use Rattle.dd_line.specs.Requests.{folder_of, read_of, written_of};
+ghost use Rattle.dicomdir.specs.Faults.{given_list};
 ghost use Rattle.dicomdir.specs.From.{from_in, looked_up, looked_up_list};
 
 use dd_elem::Memory;
@@ -67,7 +68,9 @@ fn sources_in(request: &Request) -> &[String]
 }
 
 /// Gives an empty path where the line names no list.
-pub(crate) fn list_of(request: &Request) -> &str {
+pub(crate) fn list_of(request: &Request) -> &str
+    ensures { result.now ≡ given_list request.now }
+{
     let sources = match request {
         Request::Index(index) => &index.sources,
         Request::Merge(merge) => &merge.sets,

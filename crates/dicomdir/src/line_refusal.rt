@@ -1,10 +1,12 @@
-ghost use Rattle.std.specs.Prelude.{◌≡◌, ◌≤◌, true};
+ghost use Rattle.std.specs.Prelude.{◌≡◌, ◌≤◌, None, true};
+ghost use Rattle.dicomdir.specs.Faults.{TellsFault};
 ghost use Rattle.dicomdir.specs.Mistakes.{IsMistake};
 
 use crate::masked_words::{have_control, mask_words};
 use crate::refusal::{Paths, RefusalForm, tell};
 use dd_elem::Write;
 use dd_file_set::Refusal;
+use dd_json::Style;
 use dd_line::{LineFault, read_words};
 use dd_lines::Text;
 use std::alloc::Global;
@@ -23,6 +25,7 @@ pub(crate) fn refuse_line<O: Write, E: Write>(
     ensures memory { fault.now ≡ LineFault.Memory → (result ≡ 1) × (out.new ≡ out.old) }
     ensures line { result ≡ 2 → out.new ≡ out.old }
     ensures mistake { IsMistake fault.now → (1 ≤ result) × (out.new ≡ out.old) }
+    ensures refused { IsMistake fault.now → result ≡ 1 → TellsFault E.Write Style.Text None err.old err.new }
     ensures done { result ≡ 0 → err.new ≡ err.old }
 {
     match fault {
@@ -50,6 +53,7 @@ fn refuse_masked<O: Write, E: Write>(
     ensures status { result ≤ 2 }
     ensures line { result ≡ 2 → out.new ≡ out.old }
     ensures mistake { mistake ≡ true → (1 ≤ result) × (out.new ≡ out.old) }
+    ensures refused { mistake ≡ true → result ≡ 1 → TellsFault E.Write Style.Text None err.old err.new }
     ensures done { result ≡ 0 → err.new ≡ err.old }
 {
     let Ok(shown) = mask_words(alloc, words) else {
@@ -75,6 +79,7 @@ fn tell_parser<O: Write, E: Write>(
     ensures status { result ≤ 2 }
     ensures line { result ≡ 2 → out.new ≡ out.old }
     ensures mistake { mistake ≡ true → (1 ≤ result) × (out.new ≡ out.old) }
+    ensures refused { mistake ≡ true → result ≡ 1 → TellsFault E.Write Style.Text None err.old err.new }
     ensures done { result ≡ 0 → err.new ≡ err.old }
 {
     if mistake {

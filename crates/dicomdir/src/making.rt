@@ -8,6 +8,7 @@ ghost use Rattle.dicomdir.specs.Inspecting.{style_by};
 ghost use Rattle.dd_file_set.specs.Left.{MakesDirectoryLast};
 ghost use Rattle.dd_file_set.specs.Made.{MakesFileSet};
 ghost use Rattle.dicomdir.specs.Prints.{size_of};
+ghost use Rattle.dd_file_set.specs.Reasons.{IsDueTo};
 ghost use Rattle.dd_file_set.specs.Refusal.{IsOfWork};
 ghost use Rattle.dicomdir.specs.declared.making.Ending.TheVariants.{Done};
 
@@ -116,6 +117,9 @@ pub(crate) fn make_file_set<F: Files + Progress, O: Origins, W: Write>(
     out: &mut W,
 ) -> Result<u8, Refusal>
     ensures refusal { IfErr result (IsOfWork (O.paths set.now.origins.now)) }
+    ensures due { IfErr result (λ refusal.
+        IsDueTo F.In.Read (F.refusals files.new) (F.Write.failures files.new) refusal.fault) }
+    ensures failed { IfOk result (λ status. status ≡ 1 → HasFailed (W.failures out.old) (W.failures out.new)) }
     ensures status { IfOk result (λ status. status ≤ 1) }
     ensures last { IfSaid (MakesDirectoryLast set.now.folder.now) (F.held files.old) (F.held files.new) }
     ensures made { IsOk result → MakesFileSet

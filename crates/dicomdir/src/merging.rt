@@ -14,6 +14,7 @@ ghost use Rattle.dicomdir.specs.Merges.{DoneMerges};
 ghost use Rattle.dicomdir.specs.Noted.{IsNoted, NamesBelow};
 ghost use Rattle.dicomdir.specs.Prints.{PrintsMerge, last_line};
 ghost use Rattle.dd_file_set.specs.Refusal.{IsOfWork, IsStrict};
+ghost use Rattle.dicomdir.specs.Reasons.{IsDue, IsOfEngine};
 ghost use Rattle.dicomdir.specs.Said.{SaysSetNotes};
 
 use crate::dates::show_dates;
@@ -41,6 +42,9 @@ pub(crate) fn run_merge<F: Files + Progress + Hints, O: Write>(
     out: &mut O,
 ) -> Result<u8, Refusal>
     ensures refusal { IfErr result (IsOfWork (length sets.now)) }
+    ensures due { IfErr result (λ refusal. IsDue F.In.Read (F.refusals files.new) (F.Write.failures files.new)
+        making.entry.strict refusal.fault) }
+    ensures failed { IfOk result (λ status. status ≡ 1 → HasFailed (O.failures out.old) (O.failures out.new)) }
     ensures status { IfOk result (λ status. status ≤ 1) }
     ensures dry { making.entry.dry_run ≡ true → F.held files.new ≡ F.held files.old }
     ensures last { IfSaid (MakesDirectoryLast making.entry.folder.now) (F.held files.old) (F.held files.new) }
@@ -70,6 +74,9 @@ fn merge_sets<F: Files + Progress + Hints, O: Write>(
     out: &mut O,
 ) -> Result<u8, Refusal>
     ensures refusal { IfErr result (IsOfWork (length sets.now)) }
+    ensures due { IfErr result (λ refusal. IsDue F.In.Read (F.refusals files.new) (F.Write.failures files.new)
+        making.entry.strict refusal.fault) }
+    ensures failed { IfOk result (λ status. status ≡ 1 → HasFailed (O.failures out.old) (O.failures out.new)) }
     ensures status { IfOk result (λ status. status ≤ 1) }
     ensures dry { making.entry.dry_run ≡ true → F.held files.new ≡ F.held files.old }
     ensures last { IfSaid (MakesDirectoryLast making.entry.folder.now) (F.held files.old) (F.held files.new) }
@@ -106,6 +113,9 @@ pub(crate) fn run_withdraw<F: Files + Progress + Hints, O: Write>(
     out: &mut O,
 ) -> Result<u8, Refusal>
     ensures refusal { (paths : ℕ) → 0 < paths → IfErr result (IsOfWork paths) }
+    ensures due { IfErr result (λ refusal. IsDue F.In.Read (F.refusals files.new) (F.Write.failures files.new)
+        making.entry.strict refusal.fault) }
+    ensures failed { IfOk result (λ status. status ≡ 1 → HasFailed (O.failures out.old) (O.failures out.new)) }
     ensures status { IfOk result (λ status. status ≤ 1) }
     ensures dry { making.entry.dry_run ≡ true → F.held files.new ≡ F.held files.old }
     ensures last { IfSaid (MakesDirectoryLast making.entry.folder.now) (F.held files.old) (F.held files.new) }
@@ -138,6 +148,9 @@ fn withdraw_of<F: Files + Progress + Hints, O: Write>(
 ) -> Result<u8, Refusal>
     requires { length sets.now ≡ 1 }
     ensures refusal { IfErr result (IsOfWork 1) }
+    ensures due { IfErr result (λ refusal. IsDue F.In.Read (F.refusals files.new) (F.Write.failures files.new)
+        making.entry.strict refusal.fault) }
+    ensures failed { IfOk result (λ status. status ≡ 1 → HasFailed (O.failures out.old) (O.failures out.new)) }
     ensures status { IfOk result (λ status. status ≤ 1) }
     ensures dry { making.entry.dry_run ≡ true → F.held files.new ≡ F.held files.old }
     ensures last { IfSaid (MakesDirectoryLast making.entry.folder.now) (F.held files.old) (F.held files.new) }
@@ -183,6 +196,9 @@ fn write_noted<'a, F: Files + Progress + Hints, O: Write>(
 ) -> Result<u8, Refusal>
     requires { NamesBelow (length sets.now.folders.now) noted.now }
     ensures refusal { IfErr result (IsOfWork (length sets.now.folders.now)) }
+    ensures due { IfErr result (λ refusal. IsDue F.In.Read (F.refusals files.new) (F.Write.failures files.new)
+        making.entry.strict refusal.fault) }
+    ensures failed { IfOk result (λ status. status ≡ 1 → HasFailed (O.failures out.old) (O.failures out.new)) }
     ensures status { IfOk result (λ status. status ≤ 1) }
     ensures dry { making.entry.dry_run ≡ true → F.held files.new ≡ F.held files.old }
     ensures last { IfSaid (MakesDirectoryLast making.entry.folder.now) (F.held files.old) (F.held files.new) }
@@ -274,7 +290,8 @@ fn refuse<O: Write>(
 ) -> Refusal
     requires named { IsNamedSet (length folders.now) noted.now.fault }
     requires conflict { IsBelow (λ pick. pick.set) (length folders.now) noted.now.conflict }
-    ensures { IsOfWork (length folders.now) result }
+    ensures work { IsOfWork (length folders.now) result }
+    ensures engine { IsOfEngine result.fault }
 {
     match noted.fault {
         MergeFault::Memory => Refusal::memory(),

@@ -1,4 +1,4 @@
-ghost use Rattle.std.specs.Prelude.{◌≡◌, [], IfErr, IfOk, IsErr, IsOk, string_bytes, unwrap_or};
+ghost use Rattle.std.specs.Prelude.{◌≡◌, ◌⊎◌, [], IfErr, IfOk, IsErr, IsOk, string_bytes, unwrap_or};
 ghost use Rattle.dd_elem.specs.Uid.{IsUid};
 ghost use Rattle.dd_line.specs.Line.{words_of};
 ghost use Rattle.dd_line.specs.Requests.{RequestsBadName, id_of, instances_of, uid_of};
@@ -22,6 +22,7 @@ pub(crate) struct Names {
 /// name of the wrong form, or as Memory where an allocation was refused.
 pub(crate) fn names_of(alloc: Global, request: &Request) -> Result<Names, ProgramFault>
     ensures bad { IfErr result (λ fault. IsBadLine fault → RequestsBadName request.now) }
+    ensures fault { IfErr result (λ fault. IsBadLine fault ⊎ (fault ≡ ProgramFault.Memory)) }
     ensures good { IsOk result → ¬ RequestsBadName request.now }
     ensures chooses { IfOk result (λ names. names.choice
         ≡ choice_by (id_of request.now) (uid_of request.now)) }
@@ -49,6 +50,7 @@ fn instances_in(request: &Request) -> &[String]
 
 fn choice_of(request: &Request) -> Result<Choice, ProgramFault>
     ensures bad { IsErr result → HasBadLabel request.now }
+    ensures fault { IfErr result IsBadLine }
     ensures good { IsOk result → ¬ HasBadLabel request.now }
     ensures chooses { IfOk result (λ choice. choice
         ≡ choice_by (id_of request.now) (uid_of request.now)) }
@@ -65,6 +67,7 @@ fn choice_of(request: &Request) -> Result<Choice, ProgramFault>
 
 fn set_id_of(request: &Request) -> Result<SetId, ProgramFault>
     ensures bad { IsErr result → HasBadId request.now }
+    ensures fault { IfErr result IsBadLine }
     ensures good { IsOk result → ¬ HasBadId request.now }
     ensures id { IfOk result (λ id. id ≡ unwrap_or (id_of request.now) []) }
 {
@@ -80,6 +83,7 @@ fn set_id_of(request: &Request) -> Result<SetId, ProgramFault>
 
 fn own_uid_of(request: &Request) -> Result<Option<Uid>, ProgramFault>
     ensures bad { IsErr result → HasBadOwnUid request.now }
+    ensures fault { IfErr result IsBadLine }
     ensures good { IsOk result → ¬ HasBadOwnUid request.now }
     ensures uid { IfOk result (λ uid. uid ≡ uid_of request.now) }
 {
@@ -94,6 +98,7 @@ fn own_uid_of(request: &Request) -> Result<Option<Uid>, ProgramFault>
 
 fn uids_of(alloc: Global, mut texts: &[String]) -> Result<Vec<Uid>, ProgramFault>
     ensures bad { IfErr result (λ fault. IsBadLine fault → HasBadUid texts.entry.now) }
+    ensures fault { IfErr result (λ fault. IsBadLine fault ⊎ (fault ≡ ProgramFault.Memory)) }
     ensures good { IsOk result → ¬ HasBadUid texts.entry.now }
     ensures uids { IfOk result (λ uids. uids.items ≡ words_of texts.entry.now) }
 {
@@ -110,6 +115,7 @@ fn uids_of(alloc: Global, mut texts: &[String]) -> Result<Vec<Uid>, ProgramFault
 
 fn uid_from(text: &String) -> Result<Uid, ProgramFault>
     ensures bad { IsErr result → ¬ IsUid (string_bytes text.now) }
+    ensures fault { IfErr result IsBadLine }
     ensures good { IsOk result → IsUid (string_bytes text.now) }
     ensures value { IfOk result (λ uid. uid ≡ string_bytes text.now) }
 {

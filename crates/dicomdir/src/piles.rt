@@ -1,11 +1,13 @@
 //! What the lists of piles say.
-ghost use Rattle.std.specs.Prelude.{◌≡◌, ◌<◌, ◌+◌, ◌∷◌, ◌++◌, ℕ, List, [], IfErr, IfOk, IsOk, length, string_bytes};
+ghost use Rattle.std.specs.Prelude.{◌≡◌, ◌<◌, ◌+◌, ◌∷◌, ◌++◌, ℕ, Bool, List, [], IfErr, IfOk, IsOk, length};
+ghost use Rattle.std.specs.Prelude.{string_bytes};
 ghost use Rattle.std.specs.Str.{IsUtf8};
 ghost use Rattle.dd_line.specs.Line.{words_of};
 ghost use Rattle.dd_staged.specs.Refusals.{sources_view};
 ghost use Rattle.dd_staged.specs.Sources.{Source, source_view};
-ghost use Rattle.dicomdir.specs.Publishes.{HasPiled, IsPiled};
+ghost use Rattle.dicomdir.specs.Publishes.{HasPiled, IsPiled, fault_of};
 ghost use Rattle.dd_file_set.specs.Refusal.{IsOfWork};
+ghost use Rattle.dicomdir.specs.Reasons.{IsDue};
 
 use crate::listed_names::masked;
 use dd_elem::Memory;
@@ -43,6 +45,8 @@ pub(crate) fn read_piles<F: Files + Progress>(
     files: &mut F,
 ) -> Result<Piled, Refusal>
     ensures refusal { IfErr result (IsOfWork (length piles.now)) }
+    ensures due { (strict : Bool) → IfErr result (λ refusal.
+        IsDue F.In.Read (F.refusals files.new) (F.Write.failures files.new) strict refusal.fault) }
     ensures piled { IfOk result (HasPiled (words_of piles.now) (F.held files.old)) }
     ensures kept { F.held files.new ≡ F.held files.old }
 {
@@ -106,7 +110,8 @@ fn shown_name(alloc: Global, name: &[u8]) -> Result<String, Memory>
 
 /// Gives the refusal for a fault of the list of the pile with this number.
 fn refusal_of(fault: PileFault, at: usize) -> Refusal
-    ensures { (paths : ℕ) → at < paths → IsOfWork paths result }
+    ensures work { (paths : ℕ) → at < paths → IsOfWork paths result }
+    ensures fault { result.fault ≡ fault_of fault }
 {
     let list = Subject::PileFile(at, PathText::of(&STAGED));
     match fault {

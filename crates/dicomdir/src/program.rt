@@ -1,5 +1,6 @@
 //! The program's run.
 ghost use Rattle.std.specs.Prelude.{◌≡◌, ◌≤◌, ◌<◌, ◌⊎◌, ◌↔◌, ℕ, List, [], IfErr, IfOk, length, true, false};
+ghost use Rattle.dd_elem.specs.Device.{HasFailed};
 ghost use Rattle.dd_files.specs.Keeping.{IfSaid};
 ghost use Rattle.dd_line.specs.Line.{HasBadLimit, HasBadName, IsCheck, IsReading, LacksSources, OnlyReads};
 ghost use Rattle.dd_line.specs.Line.{words_of};
@@ -16,6 +17,8 @@ ghost use Rattle.dicomdir.specs.ListedNames.{AreOfSources, HavePaths};
 ghost use Rattle.dicomdir.specs.Done.{IsDone};
 ghost use Rattle.dicomdir.specs.Names.{choice_by};
 ghost use Rattle.dd_file_set.specs.Refusal.{IsOfWork};
+ghost use Rattle.dicomdir.specs.Reasons.{IsDue};
+ghost use Rattle.dicomdir.specs.Refused.{IsRefused, IsRefusedLine, refuses_notes};
 ghost use Rattle.dicomdir.specs.Words.{IsRequestStatus, IsStatusOf, IsTaken, MakesOf, MakesRequested, SaysOf};
 ghost use Rattle.dicomdir.specs.Words.{SaysRequested, StagesOf, StagesRequested, line_of};
 
@@ -168,6 +171,11 @@ pub fn run<F: Files + Progress + Hints, O: Write, E: Write>(
         (comparison_in (line_of words.items)) (style_in (line_of words.items)) O.Write result
         (F.refusals files.old) (F.refusals files.new) out.old out.new }
 
+    // With 1 the output failed, or the run was refused for a reason that the error output has, with the path that it
+    // concerns.
+    ensures refused { result ≡ 1 → IsTaken words.items → HasFailed (O.failures out.old) (O.failures out.new)
+        ⊎ IsRefusedLine F.In.Read E.Write (line_of words.items) (F.refusals files.new) (F.Write.failures files.new)
+        (F.is_taken files.old) (F.held files.old) err.old err.new }
     ensures done { result ≡ 0 → err.new ≡ err.old }
 {
     match read_request(alloc, words.as_slice()) {
@@ -189,6 +197,9 @@ fn run_request<F: Files + Progress + Hints, O: Write, E: Write>(
     ensures line { result ≡ 2 → (files.new ≡ files.old) × (out.new ≡ out.old) }
     ensures empty { RequestsEmptyPath request.now
         → (1 ≤ result) × (files.new ≡ files.old) × (out.new ≡ out.old) }
+    ensures refused { result ≡ 1 → HasFailed (O.failures out.old) (O.failures out.new)
+        ⊎ IsRefused F.In.Read E.Write request.now (F.refusals files.new) (F.Write.failures files.new)
+        (F.is_taken files.old) (F.held files.old) err.old err.new }
     ensures done { result ≡ 0 → err.new ≡ err.old }
     ensures kept { OnlyReads (verb_of request.now) → F.held files.new ≡ F.held files.old }
     ensures dry { is_dry request.now ≡ true → F.held files.new ≡ F.held files.old }
@@ -235,6 +246,9 @@ fn run_named<F: Files + Progress + Hints, O: Write, E: Write>(
     err: &mut E,
 ) -> u8
     ensures status { IsStatusOf work.entry.request.now result }
+    ensures refused { result ≡ 1 → HasFailed (O.failures out.old) (O.failures out.new)
+        ⊎ IsRefused F.In.Read E.Write work.entry.request.now (F.refusals files.new) (F.Write.failures files.new)
+        (F.is_taken files.old) (F.held files.old) err.old err.new }
     ensures done { result ≡ 0 → err.new ≡ err.old }
     ensures kept { OnlyReads (verb_of work.entry.request.now)
         → F.held files.new ≡ F.held files.old }
@@ -252,12 +266,12 @@ fn run_named<F: Files + Progress + Hints, O: Write, E: Write>(
         (F.held files.old) (F.held files.new) out.old out.new }
 {
     let request = work.request;
-    silence_quiet(request, files);
     let given = paths_of(request);
     let listed = match all_sources(alloc, request, files) {
         Ok(listed) => listed,
         Err(refusal) => return tell_refusal(&refusal, request, given, files, err),
     };
+    silence_quiet(request, files);
     let sources = paths_or(&listed, given.sources);
     let named = Work {
         request,
@@ -295,6 +309,9 @@ fn run_verb<F: Files + Progress + Hints, O: Write>(
     requires least { length (read_of work.request.now) ≤ length sources.now }
     requires named { AreOfSources (words_of sources.now) work.bad_names.now }
     ensures refusal { IfErr result (IsOfWork (length sources.now)) }
+    ensures due { IfErr result (λ refusal. IsDue F.In.Read (F.refusals files.new) (F.Write.failures files.new)
+        (refuses_notes work.entry.request.now) refusal.fault) }
+    ensures failed { IfOk result (λ status. status ≡ 1 → HasFailed (O.failures out.old) (O.failures out.new)) }
     ensures status { IfOk result (λ status. IsStatusOf work.entry.request.now status) }
 
     ensures kept { OnlyReads (verb_of work.entry.request.now)

@@ -1,5 +1,6 @@
 //! The command `publish`: makes a file-set of piles.
 ghost use Rattle.std.specs.Prelude.{◌≡◌, ◌<◌, ◌≤◌, ℕ, All, List, IfErr, IfOk, Ok, false, length, true};
+ghost use Rattle.dd_elem.specs.Device.{HasFailed};
 ghost use Rattle.dd_engine.specs.Found.{HasFound};
 ghost use Rattle.dd_engine.specs.Indexed.{IsWithin};
 ghost use Rattle.dd_engine.specs.IndexNotes.{NotesIndex};
@@ -11,6 +12,7 @@ ghost use Rattle.dicomdir.specs.Indexes.{limits_of};
 ghost use Rattle.dd_file_set.specs.Left.{MakesDirectoryLast};
 ghost use Rattle.dicomdir.specs.Publishes.{DonePublishes, PrintsPublish, placed_bytes};
 ghost use Rattle.dd_file_set.specs.Refusal.{IsOfWork};
+ghost use Rattle.dicomdir.specs.Reasons.{IsDue, IsOfEngine};
 
 use crate::dates::show_dates;
 use crate::index::{is_noted, tell_noted};
@@ -35,6 +37,9 @@ pub(crate) fn run_publish<F: Files + Progress + Hints, O: Write>(
     out: &mut O,
 ) -> Result<u8, Refusal>
     ensures refusal { IfErr result (IsOfWork (length piles.now)) }
+    ensures due { IfErr result (λ refusal. IsDue F.In.Read (F.refusals files.new) (F.Write.failures files.new)
+        making.entry.strict refusal.fault) }
+    ensures failed { IfOk result (λ status. status ≡ 1 → HasFailed (O.failures out.old) (O.failures out.new)) }
     ensures status { IfOk result (λ status. status ≤ 1) }
     ensures dry { making.entry.dry_run ≡ true → F.held files.new ≡ F.held files.old }
     ensures last { IfSaid (MakesDirectoryLast making.entry.folder.now) (F.held files.old) (F.held files.new) }
@@ -64,6 +69,9 @@ fn publish_piles<F: Files + Progress + Hints, O: Write>(
     out: &mut O,
 ) -> Result<u8, Refusal>
     ensures refusal { IfErr result (IsOfWork (length piles.now)) }
+    ensures due { IfErr result (λ refusal. IsDue F.In.Read (F.refusals files.new) (F.Write.failures files.new)
+        making.entry.strict refusal.fault) }
+    ensures failed { IfOk result (λ status. status ≡ 1 → HasFailed (O.failures out.old) (O.failures out.new)) }
     ensures status { IfOk result (λ status. status ≤ 1) }
     ensures dry { making.entry.dry_run ≡ true → F.held files.new ≡ F.held files.old }
     ensures last { IfSaid (MakesDirectoryLast making.entry.folder.now) (F.held files.old) (F.held files.new) }
@@ -153,7 +161,8 @@ fn refuse<O: Write>(
     out: &mut O,
 ) -> Refusal
     requires { IsBelow (λ at. at) (length names.now) noted.now.conflict }
-    ensures { (paths : ℕ) → IsOfWork paths result }
+    ensures work { (paths : ℕ) → IsOfWork paths result }
+    ensures engine { IsOfEngine result.fault }
 {
     match noted.fault {
         EngineFault::Plan(fault) => {

@@ -1,7 +1,8 @@
-ghost use Rattle.std.specs.Prelude.{◌≡◌, ◌<◌, ℕ, IfErr, IfOk, IsOk, length, map};
+ghost use Rattle.std.specs.Prelude.{◌≡◌, ◌<◌, ℕ, Bool, IfErr, IfOk, IsOk, length, map};
 ghost use Rattle.dd_line.specs.Line.{words_of};
 ghost use Rattle.dicomdir.specs.Merges.{AreDirectories, HasDirectory};
 ghost use Rattle.dd_file_set.specs.Refusal.{IsOfWork};
+ghost use Rattle.dicomdir.specs.Reasons.{IsDue, IsOfEngine};
 
 use dd_dir::DirFault;
 use dd_file_set::{ProgramFault, Refusal, Subject};
@@ -14,6 +15,8 @@ pub(crate) fn read_directories<F: Files + Progress>(
     files: &mut F,
 ) -> Result<Vec<Vec<u8>>, Refusal>
     ensures refusal { IfErr result (IsOfWork (length folders.now)) }
+    ensures due { (strict : Bool) → IfErr result (λ refusal.
+        IsDue F.In.Read (F.refusals files.new) (F.Write.failures files.new) strict refusal.fault) }
     ensures all { IfOk result (λ all. length all.items ≡ length folders.now) }
     ensures read { IfOk result (λ all. AreDirectories (words_of folders.now)
         (map (λ bytes. bytes.items) all.items) (F.held files.old)) }
@@ -41,6 +44,8 @@ pub(crate) fn directory_bytes<F: Files>(
     files: &mut F,
 ) -> Result<Vec<u8>, Refusal>
     ensures refusal { (paths : ℕ) → at < paths → IfErr result (IsOfWork paths) }
+    ensures due { (strict : Bool) → IfErr result (λ refusal.
+        IsDue F.In.Read (F.refusals files.new) (F.Write.failures files.new) strict refusal.fault) }
     ensures read { IfOk result (λ bytes.
         HasDirectory folder.now bytes.items (F.held files.old)) }
     ensures worked { IsOk result → F.refusals files.new ≡ F.refusals files.old }
@@ -60,7 +65,8 @@ pub(crate) fn directory_bytes<F: Files>(
 
 /// Gives the refusal for the set with this number, whose directory can't be read.
 pub(crate) fn refusal_of(at: usize, fault: DirFault) -> Refusal
-    ensures { (paths : ℕ) → at < paths → IsOfWork paths result }
+    ensures work { (paths : ℕ) → at < paths → IsOfWork paths result }
+    ensures engine { IsOfEngine result.fault }
 {
     if fault.is_want_of_memory() {
         Refusal::memory()

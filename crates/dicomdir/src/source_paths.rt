@@ -1,11 +1,13 @@
-ghost use Rattle.std.specs.Prelude.{◌≡◌, ◌≤◌, ◌++◌, ℕ, [], IfErr, IfOk, IsOk, false, length, option_map, string_bytes};
+ghost use Rattle.std.specs.Prelude.{◌≡◌, ◌≤◌, ◌++◌, ◌⊎◌, ℕ, [], IfErr, IfOk, IsOk, false, length, option_map, string_bytes};
 ghost use Rattle.std.specs.Option.{option_map_or};
 ghost use Rattle.dd_line.specs.Line.{OnlyReads, words_of};
 ghost use Rattle.dd_line.specs.Requests.{keeps_going, read_of, verb_of};
+ghost use Rattle.dd_line.specs.declared.request.Request.{Request};
 ghost use Rattle.dd_file_set.specs.Made.{HasBytes};
 ghost use Rattle.dicomdir.specs.From.{looked_up_list};
-ghost use Rattle.dicomdir.specs.ListedNames.{AreNames, FindsSources, HavePaths, list_of, parts};
+ghost use Rattle.dicomdir.specs.ListedNames.{AreNames, FailsAt, FindsSources, HavePaths, list_of, parts};
 ghost use Rattle.dd_file_set.specs.Refusal.{IsOfWork};
+ghost use Rattle.dicomdir.specs.Reasons.{IsDueBefore, IsDueToList};
 
 use crate::line_paths::{from_of, looked_up, looked_up_list};
 use crate::listed_names::{AllSources, NamesFault, add_names};
@@ -44,6 +46,8 @@ pub(crate) fn all_sources<F: Files>(
     files: &mut F,
 ) -> Result<Option<AllSources>, Refusal>
     ensures refusal { (paths : ℕ) → IfErr result (IsOfWork paths) }
+    ensures due { IfErr result (λ refusal. IsDueBefore F.In.Read (F.refusals files.new) (F.is_taken files.old)
+        request.now (F.held files.old) refusal.fault) }
     ensures listed { IfOk result (λ listed. FindsSources (keeps_going request.now)
         (list_of request.now) (words_of (read_of request.now)) (F.held files.old)
         (words_of (option_map_or (λ all. all.paths.items) listed (read_of request.now)))
@@ -68,6 +72,8 @@ pub(crate) fn all_sources<F: Files>(
 /// Refuses a pile that is there in any form, and the folder of a file-set that has a directory already.
 fn refuse_old<F: Files>(alloc: Global, request: &Request, files: &mut F) -> Result<(), Refusal>
     ensures refusal { (paths : ℕ) → IfErr result (IsOfWork paths) }
+    ensures due { IfErr result (λ refusal. IsDueBefore F.In.Read (F.refusals files.new) (F.is_taken files.old)
+        request.now (F.held files.old) refusal.fault) }
     ensures unread { OnlyReads (verb_of request.now) → F.refusals files.new ≡ F.refusals files.old }
     ensures kept { F.held files.new ≡ F.held files.old }
 {
@@ -93,6 +99,10 @@ fn listed_in<F: Files>(
     files: &mut F,
 ) -> Result<Option<AllSources>, Refusal>
     ensures refusal { (paths : ℕ) → IfErr result (IsOfWork paths) }
+    ensures due { (r : Request) → list_of r
+        ≡ option_map (λ list. looked_up_list from.now (string_bytes list)) sources.now.files0_from
+        → keeps_going r ≡ false → IfErr result (λ refusal.
+        IsDueToList F.In.Read (F.refusals files.new) r (F.held files.old) refusal.fault) }
     ensures listed { IfOk result (λ listed. FindsSources false
         (option_map (λ list. looked_up_list from.now (string_bytes list)) sources.now.files0_from)
         (words_of sources.now.words.items) (F.held files.old)
@@ -118,6 +128,9 @@ fn listed_sources<F: Files>(
     files: &mut F,
 ) -> Result<Option<AllSources>, Refusal>
     ensures refusal { (paths : ℕ) → IfErr result (IsOfWork paths) }
+    ensures due { (r : Request) → list_of r ≡ option_map string_bytes sources.now.files0_from
+        → keeps_going r ≡ keep_going → IfErr result (λ refusal.
+        IsDueToList F.In.Read (F.refusals files.new) r (F.held files.old) refusal.fault) }
     ensures listed { IfOk result (λ listed. FindsSources keep_going
         (option_map string_bytes sources.now.files0_from)
         (words_of sources.now.words.items) (F.held files.old)
@@ -141,6 +154,8 @@ fn listed_sources<F: Files>(
 /// than 4,294,967,295 bytes.
 fn list_bytes<F: Files>(alloc: Global, path: &str, files: &mut F) -> Result<Vec<u8>, Refusal>
     ensures refusal { (paths : ℕ) → IfErr result (IsOfWork paths) }
+    ensures due { (r : Request) → IfErr result (λ refusal.
+        IsDueToList F.In.Read (F.refusals files.new) r (F.held files.old) refusal.fault) }
     ensures read { IfOk result (λ bytes. HasBytes path.now bytes.items (F.held files.old)) }
     ensures kept { F.held files.new ≡ F.held files.old }
 {
@@ -162,6 +177,9 @@ fn with_listed(
     keep_going: bool,
 ) -> Result<AllSources, Refusal>
     ensures refusal { (paths : ℕ) → IfErr result (IsOfWork paths) }
+    ensures fault { IfErr result (λ refusal. (refusal.fault ≡ ProgramFault.Memory)
+        ⊎ ((number : ℕ) × (refusal.fault ≡ ProgramFault.BadName number)
+        × FailsAt keep_going (parts list.now) number)) }
     ensures names { IsOk result → AreNames keep_going (parts list.now) }
     ensures paths { IfOk result (λ all. HavePaths (words_of given.now ++ parts list.now)
         (words_of all.paths.items) all.bad_names.items) }

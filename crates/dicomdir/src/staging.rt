@@ -1,16 +1,17 @@
 //! The command `stage`: makes a pile of sources.
-ghost use Rattle.std.specs.Prelude.{◌≡◌, ◌<◌, ◌≤◌, ◌⊎◌, ℕ, List, IfErr, IfOk, IsErr, IsOk, OnOk, length, map};
+ghost use Rattle.std.specs.Prelude.{◌≡◌, ◌<◌, ◌≤◌, ◌⊎◌, ℕ, List, IfErr, IfOk, IsErr, IsOk, OnOk, false, length, map};
 ghost use Rattle.std.specs.Prelude.{string_bytes};
 ghost use Rattle.dd_elem.specs.Device.{HasFailed};
 ghost use Rattle.dd_files.specs.Keeping.{IfSaid};
 ghost use Rattle.dd_line.specs.Line.{words_of};
 ghost use Rattle.dd_lines.specs.Text.{TakesText};
-ghost use Rattle.dd_pile.specs.Refusals.{Names};
+ghost use Rattle.dd_pile.specs.Refusals.{IsDueTo, Names};
 ghost use Rattle.dicomdir.specs.From.{from_text, looked_up};
 ghost use Rattle.dicomdir.specs.Inspecting.{style_by};
 ghost use Rattle.dicomdir.specs.Last.{StagesListLast};
 ghost use Rattle.dd_file_set.specs.Refusal.{IsOfWork};
-ghost use Rattle.dicomdir.specs.Stages.{MakesNamed, Stages, staged_text, staged_words};
+ghost use Rattle.dicomdir.specs.Reasons.{IsDue};
+ghost use Rattle.dicomdir.specs.Stages.{MakesNamed, Stages, fault_of, staged_text, staged_words};
 
 use crate::inspecting::style_for;
 use crate::line_paths::looked_up;
@@ -37,6 +38,9 @@ pub(crate) fn run_stage<F: Files + Progress, O: Write>(
     out: &mut O,
 ) -> Result<u8, Refusal>
     ensures refusal { IfErr result (IsOfWork (length names.now)) }
+    ensures due { IfErr result (λ refusal. IsDue F.In.Read (F.refusals files.new) (F.Write.failures files.new)
+        false refusal.fault) }
+    ensures failed { IfOk result (λ status. status ≡ 1 → HasFailed (O.failures out.old) (O.failures out.new)) }
     ensures status { IfOk result (λ status. status ≤ 1) }
     ensures last { IfSaid (StagesListLast (string_bytes stage.now.pile)) (F.held files.old) (F.held files.new) }
     ensures staged { IfOk result (λ status. status ≡ 0 → Stages O.Write (style_by stage.now.json)
@@ -58,6 +62,7 @@ fn stage_named<F: Files + Progress>(
     files: &mut F,
 ) -> Result<StageSum, StageRefusal>
     ensures refusal { IfErr result (Names (λ at. at < length names.now)) }
+    ensures due { IfErr result (IsDueTo F.In.Read (F.refusals files.new) (F.Write.failures files.new)) }
     ensures last { IfSaid (StagesListLast (string_bytes stage.now.pile)) (F.held files.old) (F.held files.new) }
     ensures made { IfOk result (λ sum. MakesNamed (from_text stage.now.from)
         (string_bytes stage.now.pile) (words_of names.now) sum (F.held files.old) (F.held files.new)) }
@@ -96,6 +101,7 @@ fn stage_at<F: Files + Progress>(
 ) -> Result<StageSum, StageRefusal>
     requires { length paths.now ≡ length names.now }
     ensures refusal { IfErr result (Names (λ at. at < length names.now)) }
+    ensures due { IfErr result (IsDueTo F.In.Read (F.refusals files.new) (F.Write.failures files.new)) }
     ensures last { IfSaid (StagesListLast pile.now) (F.held files.old) (F.held files.new) }
     ensures made { (from : List ℕ) → words_of paths.now ≡ map (looked_up from) (words_of names.now)
         → IfOk result (λ sum. MakesNamed from pile.now (words_of names.now) sum
@@ -129,7 +135,8 @@ fn sources_at<'a>(
 
 /// Gives the refusal of a pile that was not made.
 fn refusal_of(refusal: StageRefusal) -> Refusal
-    ensures { (count : ℕ) → Names (λ at. at < count) refusal → IsOfWork count result }
+    ensures work { (count : ℕ) → Names (λ at. at < count) refusal → IsOfWork count result }
+    ensures fault { result.fault ≡ fault_of refusal }
 {
     match refusal {
         StageRefusal::ListTooLarge => Refusal::general(ProgramFault::ListTooLarge),

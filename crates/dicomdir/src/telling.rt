@@ -1,6 +1,9 @@
 //! What a person is told where a run is refused.
-ghost use Rattle.std.specs.Prelude.{◌≡◌, ◌↔◌, ◌⊎◌, length};
+ghost use Rattle.std.specs.Prelude.{◌≡◌, ◌↔◌, ◌⊎◌, length, true};
 ghost use Rattle.dd_file_set.specs.Refusal.{IsAmong, IsBadLine, IsOfWork};
+ghost use Rattle.dd_line.specs.Line.{words_of};
+ghost use Rattle.dd_line.specs.Requests.{is_json};
+ghost use Rattle.dicomdir.specs.Faults.{HasNoHints, TellsRefusal, given_list};
 
 use crate::hints::{hints_of, print_hints};
 use crate::line_flags::{is_quiet, is_verbose, style_of};
@@ -13,7 +16,9 @@ use dd_json::Style;
 use dd_line::Request;
 
 /// Says whether hints are shown: JSON objects have them even where no person reads the error output.
-pub(crate) fn shows_hints<F: Hints>(request: &Request, files: &F) -> bool {
+pub(crate) fn shows_hints<F: Hints>(request: &Request, files: &F) -> bool
+    ensures { result ≡ true → HasNoHints request.now → is_json request.now ≡ true }
+{
     let has_reader = style_of(request) == Style::Json || files.has_reader();
     is_verbose(request) || (!is_quiet(request) && has_reader)
 }
@@ -29,6 +34,8 @@ pub(crate) fn tell_with_hints<F: Hints, E: Write>(
     requires { IsAmong (length paths.sources.now) refusal.now.subject }
     ensures line { result ≡ 2 ↔ IsBadLine refusal.now.fault }
     ensures status { (result ≡ 1) ⊎ (result ≡ 2) }
+    ensures told { TellsRefusal E.Write request.now paths.entry.folder.now (words_of paths.entry.sources.now)
+        paths.entry.list.now refusal.now.subject err.old err.new }
 {
     let hints = if shows_hints(request, files) {
         Some(hints_of(refusal, paths, files))
@@ -55,7 +62,11 @@ pub(crate) fn tell_refusal<F: Files + Progress + Hints, E: Write>(
 ) -> u8
     requires { IsOfWork (length paths.sources.now) refusal.now }
     ensures status { result ≡ 1 }
+    ensures told { TellsRefusal E.Write request.now paths.entry.folder.now (words_of paths.entry.sources.now)
+        (given_list request.now) refusal.now.subject err.old err.new }
     ensures kept { F.held files.new ≡ F.held files.old }
+    ensures counts { (F.refusals files.new ≡ F.refusals files.old)
+        × (F.Write.failures files.new ≡ F.Write.failures files.old) }
 {
     files.hide_line();
     let paths = Paths {
@@ -75,12 +86,14 @@ pub(crate) fn tell_empty<F: Hints, E: Write>(
     err: &mut E,
 ) -> u8
     requires { IsOfWork (length paths.sources.now) refusal.now }
-    ensures { result ≡ 1 }
+    ensures status { result ≡ 1 }
+    ensures told { TellsRefusal E.Write request.now paths.entry.folder.now (words_of paths.entry.sources.now)
+        (given_list request.now) refusal.now.subject err.old err.new }
 {
     let paths = Paths {
         folder: paths.folder,
         sources: paths.sources,
-        list: "",
+        list: list_of(request),
         unstored: "",
     };
     tell_with_hints(refusal, request, paths, files, err)

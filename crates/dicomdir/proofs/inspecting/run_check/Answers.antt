@@ -1,5 +1,6 @@
 -- What was printed is of the directory in the folder. Reading it neither changes files nor counts as a refusal.
-use Rattle.std.proofs.Common.{◌∙◌, refl, rules, sym, true≢false}
+use Rattle.std.proofs.Common.{◌∙◌, false, refl, rules, sym, true≢false}
+use Rattle.std.proofs.lemmas.Result.{err_from_is_err_and}
 use Rattle.dicomdir.proofs.Inspected.{check_broken, check_unsent, nothing_found, something_found}
 use Rattle.dicomdir.proofs.inspecting.run_check.Goals as goal
 
@@ -38,3 +39,8 @@ returns-in-Err-Unsent-clause-checks g c =
     c.check_records.new.to c.in_ok-bytes.ensures.read _ (rw c.deref.ensures.value at c.in-Ok.ensures.walk)
     (rw (c.in_ok-bytes.ensures.kept, c.in_ok-bytes.ensures.worked refl) at
     c.in-Err-Unsent.ensures.unsent (search rules))
+
+pub returns-in_err-bytes-clause-due : goal.returns-in_err-bytes-clause-due
+returns-in_err-bytes-clause-due g c =
+    let p = err_from_is_err_and c.from_residual.result c.from_residual.ensures.1 in
+    rw (p.1, p.2) (c.in_err-bytes.ensures.due false)

@@ -1,5 +1,5 @@
 -- What was made is of the answer of the engine, whose sets are the directories in the folders.
-use Rattle.std.proofs.Common.{◌≡◌, [], map, true}
+use Rattle.std.proofs.Common.{◌≡◌, [], Err, map, rules, true}
 use Rattle.dd_line.specs.Line.{words_of}
 use Rattle.dicomdir.proofs.EngineMade.{done_merges}
 use Rattle.dicomdir.proofs.PrintedLines.{merge_prints}
@@ -23,3 +23,8 @@ returns-clause-printed g c =
     c.args.out.now c.write_noted.new.out c.write_noted.result c.in_ok-directories.ensures.read
     (rw (c.of_bytes-limits.ensures, c.deref-2.ensures.value, c.in_ok-slices.ensures.bytes, c.deref.ensures.value) at
     c.in-Ok.ensures.merges) c.write_noted.ensures.printed
+
+pub returns-in_err-directories-clause-due : goal.returns-in_err-directories-clause-due
+returns-in_err-directories-clause-due g c =
+    let is : c.from_residual.result ≡ Err c.in_err-directories.field-0.0 = search rules in
+    rw is (c.in_err-directories.ensures.due c.args.making.strict)

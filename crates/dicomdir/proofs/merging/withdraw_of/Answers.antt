@@ -1,5 +1,5 @@
 -- What was made is of the answer of the engine, whose one set is the directory in the folder. Images get no hard links.
-use Rattle.std.proofs.Common.{◌∙◌, ap, length, map}
+use Rattle.std.proofs.Common.{◌≡◌, ◌∙◌, Err, ap, length, map, rules}
 use Rattle.dd_line.specs.Line.{words_of}
 use Rattle.dicomdir.specs.Origins.{IsMemberPath}
 use Rattle.dicomdir.proofs.EngineMade.{done_merges, only_one}
@@ -34,3 +34,8 @@ returns-clause-printed g c =
     c.write_noted.new.out c.write_noted.result c.in_ok-directories.ensures.read
     (rw (c.of_bytes-limits.ensures, c.deref-2.ensures.value, set) at c.in-Ok.ensures.merges)
     c.write_noted.ensures.printed
+
+pub returns-in_err-directories-clause-due : goal.returns-in_err-directories-clause-due
+returns-in_err-directories-clause-due g c =
+    let is : c.from_residual.result ≡ Err c.in_err-directories.field-0.0 = search rules in
+    rw is (c.in_err-directories.ensures.due c.args.making.strict)

@@ -2,6 +2,7 @@ use Rattle.std.proofs.Common.{◌≤◌, ℕ, arith, inl, inr, subst, sym}
 use Rattle.std.specs.Prelude.{◌⊎◌}
 use Rattle.dd_files.specs.Keeping.{IfSaid}
 use Rattle.dd_line.specs.Line.{HasBadLimit, HasBadName, IsCheck, IsReading, LacksSources}
+use Rattle.dd_line.specs.Requests.{IsRequested}
 use Rattle.dd_line.proofs.RequestLemmas.{given_bad, requested_bad, requested_check, requested_reads}
 use Rattle.dicomdir.specs.DryRun.{HasDryRun, HasKeepGoing}
 use Rattle.dicomdir.specs.EmptyPaths.{HasEmptyPath}
@@ -284,3 +285,21 @@ returns-clause-checks g c = λ is taken _.
     let still = subst (λ words. IsTaken words) (sym c.as_slice.ensures.value) taken in
     let amiss = c.refuse_line.ensures.mistake (taken_mistake c.in-Err.fault _ _ (c.in-Err.ensures.passes still)) in
     absurd (refused_line c.refuse_line.result is amiss.0 c.refuse_line.ensures.status)
+
+-- ---- what was refused
+
+pub returns-in-Ok-clause-refused : goal.returns-in-Ok-clause-refused
+returns-in-Ok-clause-refused g c = λ one taken. elim (c.run_request.ensures.refused one) [
+  | inl failed ↦ inl failed
+  | inr refused ↦ inr (inr (
+    c.in-Ok.request,
+    subst (λ words. IsRequested c.in-Ok.request (line_of words))
+        c.as_slice.ensures.value c.in-Ok.ensures.request,
+    refused,
+  ))
+]
+
+pub returns-clause-refused : goal.returns-clause-refused
+returns-clause-refused g c = λ one taken.
+    let still = subst (λ words. IsTaken words) (sym c.as_slice.ensures.value) taken in
+    inr (inl (c.refuse_line.ensures.refused (taken_mistake c.in-Err.fault _ _ (c.in-Err.ensures.passes still)) one))

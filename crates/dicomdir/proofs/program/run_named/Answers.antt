@@ -1,4 +1,6 @@
+use Rattle.std.proofs.Common.{inl, inr}
 use Rattle.std.specs.Prelude.{length}
+use Rattle.dicomdir.proofs.RefusedRuns.{refused_before, refused_in}
 use Rattle.dicomdir.proofs.program.run_named.Goals as goal
 
 pub tell_refusal-requires : goal.tell_refusal-requires
@@ -7,11 +9,11 @@ tell_refusal-requires g c = c.in-Err.ensures.refusal (length c.paths_of-given.re
 -- What is made is of the sources that the line and its list give.
 pub returns-in-Ok-run_verb-clause-made : goal.returns-in-Ok-run_verb-clause-made
 returns-in-Ok-run_verb-clause-made g c = λ makes done.
-    let found = rw c.silence_quiet.ensures.kept at c.in-Ok.ensures.listed in
+    let found = c.in-Ok.ensures.listed in
     record {
       sources = found.sources;
       are = found.are;
-      made = rw (c.all_sources.ensures.kept, c.silence_quiet.ensures.kept) at
+      made = rw (c.silence_quiet.ensures.kept, c.all_sources.ensures.kept) at
           c.in-Ok-run_verb.ensures.made found.sources
           (rw (c.paths_or-sources.ensures, c.paths_of-given.ensures.sources, c.bad_names_in.ensures) found.have)
           (rw c.bad_names_in.ensures found.none) makes done;
@@ -20,11 +22,11 @@ returns-in-Ok-run_verb-clause-made g c = λ makes done.
 -- What is printed is of these, too.
 pub returns-in-Ok-run_verb-clause-says : goal.returns-in-Ok-run_verb-clause-says
 returns-in-Ok-run_verb-clause-says g c = λ done.
-    let found = rw c.silence_quiet.ensures.kept at c.in-Ok.ensures.listed in
+    let found = c.in-Ok.ensures.listed in
     record {
       sources = found.sources;
       are = found.are;
-      says = rw (c.all_sources.ensures.kept, c.silence_quiet.ensures.kept) at
+      says = rw (c.silence_quiet.ensures.kept, c.all_sources.ensures.kept) at
           c.in-Ok-run_verb.ensures.says found.sources
           (rw (c.paths_or-sources.ensures, c.paths_of-given.ensures.sources, c.bad_names_in.ensures) found.have)
           (rw c.bad_names_in.ensures found.none) done;
@@ -33,11 +35,11 @@ returns-in-Ok-run_verb-clause-says g c = λ done.
 -- So is what is staged.
 pub returns-in-Ok-run_verb-clause-staged : goal.returns-in-Ok-run_verb-clause-staged
 returns-in-Ok-run_verb-clause-staged g c = λ done.
-    let found = rw c.silence_quiet.ensures.kept at c.in-Ok.ensures.listed in
+    let found = c.in-Ok.ensures.listed in
     record {
       names = found.sources;
       are = found.are;
-      staged = rw (c.all_sources.ensures.kept, c.silence_quiet.ensures.kept) at
+      staged = rw (c.silence_quiet.ensures.kept, c.all_sources.ensures.kept) at
           c.in-Ok-run_verb.ensures.staged found.sources
           (rw (c.paths_or-sources.ensures, c.paths_of-given.ensures.sources, c.bad_names_in.ensures) found.have)
           (rw c.bad_names_in.ensures found.none) done;
@@ -47,3 +49,20 @@ pub run_verb-requires-clause-named : goal.run_verb-requires-clause-named
 run_verb-requires-clause-named g c =
     let found = c.in-Ok.ensures.listed in
     (found.sources, rw (c.paths_or-sources.ensures, c.paths_of-given.ensures.sources, c.bad_names_in.ensures) found.have)
+
+-- What was refused has a reason.
+pub returns-in-Err-clause-refused : goal.returns-in-Err-clause-refused
+returns-in-Err-clause-refused g c = λ one. inr
+    (refused_before g.F.In.Read g.E.Write c.args.work.request.now _ _ _ _ _ _ c.in-Err.refusal _
+    c.tell_refusal.ensures.counts.0 c.in-Err.ensures.due
+    (rw (c.paths_of-given.ensures.folder, c.paths_of-given.ensures.sources) at c.tell_refusal.ensures.told))
+
+pub returns-in-Ok-run_verb-clause-refused : goal.returns-in-Ok-run_verb-clause-refused
+returns-in-Ok-run_verb-clause-refused g c = λ one. inl (c.in-Ok-run_verb.ensures.failed one)
+
+pub returns-clause-refused : goal.returns-clause-refused
+returns-clause-refused g c = λ one.
+    let told = c.tell_refusal-in-Err-run_verb.ensures in
+    inr (refused_in g.F.In.Read g.E.Write c.args.work.request.now _ _ _ _ _ _ c.in-Err-run_verb.refusal _ _ _
+    told.counts.0 told.counts.1 c.in-Err-run_verb.ensures.due (inr (_, c.in-Ok.ensures.listed))
+    (rw (c.paths_of-given.ensures.folder, c.paths_or-sources.ensures, c.paths_of-given.ensures.sources) at told.told))

@@ -2,7 +2,8 @@
 use Rattle.std.proofs.Common.{ℕ, arith, inl, inr, refl, rules, subst}
 use Rattle.dd_line.specs.Requests.{written_of}
 use Rattle.dicomdir.specs.EmptyPaths.{IsEmptyAt}
-use Rattle.dicomdir.proofs.EmptyWords.{folder_seen, none_empty}
+use Rattle.dicomdir.proofs.EmptyWords.{folder_seen, none_empty, some_empty}
+use Rattle.dicomdir.proofs.RefusedRuns.{refused_empty, refused_names}
 use Rattle.dicomdir.proofs.program.run_request.Goals as goal
 
 pub returns-clause-empty : goal.returns-clause-empty
@@ -35,3 +36,17 @@ returns-in-Err-clause-status g c = record {
   bad = search (rules, arith);
   good = search (rules, arith);
 }
+
+-- What was refused has a reason.
+pub returns-in-Err-clause-refused : goal.returns-in-Err-clause-refused
+returns-in-Err-clause-refused g c = λ one. inr
+    (refused_names g.F.In.Read g.E.Write c.args.request.now _ _ _ _ _ _ c.in-Err.fault c.tell_with_hints.result _ _ _
+    one (λ bad. c.tell_with_hints.ensures.line.1 (rw c.general-refusal.ensures bad)) c.in-Err.ensures.fault
+    (rw c.general-refusal.ensures at c.tell_with_hints.ensures.told))
+
+pub returns-in-Some-clause-refused : goal.returns-in-Some-clause-refused
+returns-in-Some-clause-refused g c = λ one. inr
+    (refused_empty g.F.In.Read g.E.Write c.args.request.now _ _ _ _ _ _ c.in-Some.refusal
+    (some_empty c.args.request.now c.written_in.result c.written_in.ensures
+    (rw c.paths_of-paths.ensures.sources at c.in-Some.ensures.some))
+    (rw (c.paths_of-paths.ensures.folder, c.paths_of-paths.ensures.sources) at c.tell_empty.ensures.told))

@@ -1,5 +1,5 @@
 -- What was made and printed is of the answer of the engine on what the lists of the piles say.
-use Rattle.std.proofs.Common.{length, rules, string_bytes}
+use Rattle.std.proofs.Common.{◌≡◌, Err, length, rules, string_bytes, true}
 use Rattle.std.proofs.lemmas.List.{length-map}
 use Rattle.std.specs.Prelude.{IsOk, Ok}
 use Rattle.dd_engine.specs.Indexed.{IsWithin}
@@ -8,8 +8,10 @@ use Rattle.dd_line.specs.Line.{words_of}
 use Rattle.dicomdir.proofs.PilesMade.{all_in_piles, done_publish, have_places, of_names, publish_prints}
 use Rattle.dicomdir.proofs.PrintedLines.{unnoted}
 use Rattle.dicomdir.proofs.SaidLines.{on_ok_gives}
+use Rattle.dd_file_set.specs.Made.{MakesFileSet}
 use Rattle.dd_file_set.specs.declared.refusal.Refusal.{Refusal}
 use Rattle.dicomdir.specs.Noted.{IsNotedIndex}
+use Rattle.dicomdir.specs.Publishes.{IsCopyAt, MayLinkAt}
 use Rattle.dicomdir.proofs.publishing.publish_piles.Goals as goal
 
 pub refuse-requires : goal.refuse-requires
@@ -19,7 +21,7 @@ refuse-requires g c =
     (λ count. IsBelow (λ at. at) count conflict) c.in_ok-names.ensures.piled c.in-Err.ensures.conflict)
 
 pub returns-in-Err-clause-refusal : goal.returns-in-Err-clause-refusal
-returns-in-Err-clause-refusal g c = c.refuse.ensures (length c.args.piles.now)
+returns-in-Err-clause-refusal g c = c.refuse.ensures.work (length c.args.piles.now)
 
 pub tell_noted-requires : goal.tell_noted-requires
 tell_noted-requires g c =
@@ -51,14 +53,19 @@ invariant_of-set-2 g c = record {
 pub returns-clause-made : goal.returns-clause-made
 returns-clause-made g c = λ makes.
     let making = c.args.making in
-    done_publish making.names.now.choice making.max_bytes (words_of c.args.piles.now) c.in_ok-names.field-0
-    c.in-Ok.past.noted c.make_file_set.result _ making.folder.now _ _ c.in_ok-names.ensures.piled
-    c.in-Ok.ensures.notes (rw (
+    let piles = words_of c.args.piles.now in
+    let noted = c.in-Ok.past.noted in
+    let made : IsOk c.make_file_set.result → MakesFileSet (IsCopyAt piles c.deref-3.result.now)
+    (MayLinkAt (making.link ≡ true) c.deref-3.result.now) making.folder.now noted.indexed.plan c.deref-4.result.now
+    (g.F.Files.held c.show_dates.new.files) (g.F.Files.held c.make_file_set.new.files) =
+    c.make_file_set.ensures.made in
+    done_publish making.names.now.choice making.max_bytes piles c.in_ok-names.field-0 noted c.make_file_set.result
+    (making.link ≡ true) making.folder.now _ _ c.in_ok-names.ensures.piled c.in-Ok.ensures.notes (rw (
       c.deref-3.ensures.value,
       c.deref-4.ensures.value,
       c.show_dates.ensures.kept,
       c.read_piles.ensures.kept,
-    ) at c.make_file_set.ensures.made)
+    ) at made)
 
 pub returns-clause-printed : goal.returns-clause-printed
 returns-clause-printed g c =
@@ -88,3 +95,8 @@ returns-then-making-clause-printed g c =
       c.deref-then-making.ensures.value,
       c.deref-then-making-2.ensures.value,
     ) at c.tell_plan_of_images.ensures.done))
+
+pub returns-in_err-names-clause-due : goal.returns-in_err-names-clause-due
+returns-in_err-names-clause-due g c =
+    let is : c.from_residual.result ≡ Err c.in_err-names.field-0.0 = search rules in
+    rw is (c.in_err-names.ensures.due c.args.making.strict)

@@ -1,4 +1,5 @@
-use Rattle.std.proofs.Common.{◌≡◌, ◌∙◌, ◌+◌, [], ℕ, List, Option, ap, arith, get_or, length, map, string_bytes, subst, sym}
+use Rattle.std.proofs.Common.{◌≡◌, ◌∙◌, ◌+◌, [], ℕ, Err, List, Option, ap, arith, get_or, length, map, rules}
+use Rattle.std.proofs.Common.{string_bytes, subst, sym}
 use Rattle.std.proofs.lemmas.List.{get_or-map, length-map, length_push, map_push}
 use Rattle.dd_files.specs.Files.{Held}
 use Rattle.dd_line.specs.Line.{words_of}
@@ -29,3 +30,8 @@ loop-at-preserved g c =
           read));
       kept = c.advance.ensures.kept ∙ c.in_ok-bytes.ensures.kept ∙ before.kept;
     }
+
+pub returns-in_err-bytes-clause-due : goal.returns-in_err-bytes-clause-due
+returns-in_err-bytes-clause-due g c = λ strict.
+    let is : c.from_residual.result ≡ Err c.in_err-bytes.field-0.0 = search rules in
+    rw is (c.in_err-bytes.ensures.due strict)

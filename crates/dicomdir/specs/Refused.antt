@@ -1,0 +1,55 @@
+-- How a run ends that is refused: why, and what it prints.
+use Rattle.std.specs.Prelude.{◌≡◌, ◌⊎◌, ℕ, Bool, false, List, None, Option}
+use Rattle.clap.specs.Words.{Row, Text}
+use Rattle.dd_elem.specs.declared.device.Read.{Ghosts as ReadOf}
+use Rattle.dd_elem.specs.declared.device.Write.{Ghosts as WriteOf}
+use Rattle.dd_file_set.specs.declared.refusal.ProgramFault.{ProgramFault}
+use Rattle.dd_file_set.specs.declared.refusal.ProgramFault.TheVariants.{Memory}
+use Rattle.dd_file_set.specs.declared.refusal.Refusal.{Refusal}
+use Rattle.dd_files.specs.Files.{Held}
+use Rattle.dd_json.specs.declared.value.Style.TheVariants.{Text as Plain}
+use Rattle.dd_line.specs.Line.{words_of}
+use Rattle.dd_line.specs.Requests.{IsRequested, folder_of, keeps_going, read_of}
+use Rattle.dd_line.specs.declared.request.Request.{Request}
+use Rattle.dd_line.specs.declared.request.Request.TheVariants.{Check, Index, List as ListSet, Merge, Publish, Stage, Withdraw}
+use Rattle.dicomdir.specs.EmptyPaths.{RequestsEmptyPath}
+use Rattle.dicomdir.specs.Faults.{TellsFault, TellsRefusal, given_list}
+use Rattle.dicomdir.specs.ListedNames.{FindsSources, list_of}
+use Rattle.dicomdir.specs.Reasons.{IsDue, IsDueBefore}
+
+-- a line SKIP or NOTE refuses the run
+abbrev pub refuses_notes : Request → Bool
+refuses_notes (Index x) = x.new_set.strict
+refuses_notes (Merge x) = x.new_set.strict
+refuses_notes (Withdraw x) = x.new_set.strict
+refuses_notes (Stage x) = false
+refuses_notes (Publish x) = x.new_set.strict
+refuses_notes (Check x) = false
+refuses_notes (ListSet x) = false
+
+-- This speaks for the fault: a path of the line is empty, or something before the work does or in it, or an allocation
+-- was refused.
+abbrev pub IsDueOf : {R : Type 0} → ReadOf R → ℕ → ℕ → (List ℕ → Type 0) → Request → Option Held → ProgramFault → Type 0
+IsDueOf reads refusals failures may_be_taken r files fault = RequestsEmptyPath r
+    ⊎ (IsDueBefore reads refusals may_be_taken r files fault
+    ⊎ (IsDue reads refusals failures (refuses_notes r) fault ⊎ (fault ≡ Memory)))
+
+-- the sources that a refusal may name: those that the line gives and, once they are read, those that its list names
+abbrev pub MayNameOf : Request → Option Held → List Text → Type 0
+MayNameOf r files sources = (sources ≡ words_of (read_of r)) ⊎ ((bad : List ℕ)
+    × FindsSources (keeps_going r) (list_of r) (words_of (read_of r)) files sources bad)
+
+-- the run ended with this refusal, and the writer took its line
+pub record IsRefused {R E : Type 0} (reads : ReadOf R) (writer : WriteOf E) (r : Request) (refusals failures : ℕ)
+    (may_be_taken : List ℕ → Type 0) (files : Option Held) (old new : E) : Type 0 where
+  pub refusal : Refusal
+  pub due : IsDueOf reads refusals failures may_be_taken r files refusal.fault
+  pub sources : List Text
+  pub are : MayNameOf r files sources
+  pub told : TellsRefusal writer r (folder_of r) sources (given_list r) refusal.subject old new
+
+-- the same of the request that the words make; or an allocation was refused before there was one
+abbrev pub IsRefusedLine : {R E : Type 0} → ReadOf R → WriteOf E → Option (Text × List Row) → ℕ → ℕ → (List ℕ → Type 0)
+    → Option Held → E → E → Type 0
+IsRefusedLine reads writer line refusals failures may_be_taken files old new = TellsFault writer Plain None old new
+    ⊎ ((r : Request) × IsRequested r line × IsRefused reads writer r refusals failures may_be_taken files old new)
