@@ -1,5 +1,5 @@
 mod allocations;
-mod directories;
+pub(crate) mod directories;
 mod keys;
 mod picks;
 mod withdrawals;

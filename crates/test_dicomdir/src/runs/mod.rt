@@ -1,5 +1,6 @@
 mod allocations;
 mod checks;
+mod definitions;
 mod devices;
 pub(crate) mod disc;
 mod hints;
