@@ -1,4 +1,4 @@
--- What speaks for a fault, by what calls have answered.
+-- The evidence for a fault, from what calls have answered.
 use Rattle.std.proofs.Common.{◌≡◌, ℕ, false, List, Option, None, Some, Result, Ok, Err, inr, refl, subst, sym}
 use Rattle.std.specs.Prelude.{IfOk, IsOk, codes}
 use Rattle.dd_elem.specs.declared.device.Read.{Ghosts as ReadOf}
@@ -25,7 +25,7 @@ still_counted old new is = subst HasCounted (sym is)
 
 -- ---- a copy
 
--- what speaks for its fault
+-- the evidence for its fault
 abbrev pub IsCopyDue : {R : Type 0} → ReadOf R → ℕ → FilingFault → Type 0
 IsCopyDue reads failures copy.Memory = Unit {0}
 IsCopyDue reads failures copy.Unread = HasFailedReader reads

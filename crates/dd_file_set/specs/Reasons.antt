@@ -10,7 +10,7 @@ use Rattle.dd_file_set.specs.declared.refusal.ProgramFault.{ProgramFault}
 use Rattle.dd_file_set.specs.declared.refusal.ProgramFault.TheVariants.{Absent, Changed, Create, Folder, Memory}
 use Rattle.dd_file_set.specs.declared.refusal.ProgramFault.TheVariants.{Unread, Unsent}
 
--- What speaks for a fault in making a file-set: the files have refused a call, a read of one of their readers has
+-- The evidence for a fault in making a file-set: the files have refused a call, a read of one of their readers has
 -- failed, or a write to them.
 abbrev pub IsDueTo : {R : Type 0} → ReadOf R → ℕ → ℕ → ProgramFault → Type 0
 IsDueTo reads refusals failures Absent = HasCounted refusals
@@ -22,7 +22,7 @@ IsDueTo reads refusals failures Changed = Unit {0}
 IsDueTo reads refusals failures Memory = Unit {0}
 IsDueTo reads refusals failures fault = ⊥
 
--- what speaks for a fault of a hard link: without one, an image may still get a copy
+-- the evidence for a fault of a hard link: without a link, an image may still get a copy
 abbrev pub IsLinkDueTo : ℕ → LinkFault → Type 0
 IsLinkDueTo refusals link.Absent = HasCounted refusals
 IsLinkDueTo refusals link.Changed = Unit {0}

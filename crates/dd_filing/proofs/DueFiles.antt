@@ -44,7 +44,7 @@ module _ (Refuses Fails : Type 0) where
   due_with all after file is due one =
       subst (λ (x : NextFiles). AreDue Refuses Fails x) (sym is) (All-push Due all.files file due one)
 
--- what speaks for it once may speak for it later
+-- evidence once may be evidence later
 due_later : (Refuses Later Fails : Type 0) → (Refuses → Later) → (file : Ahead) → IsDue Refuses Fails file
     → IsDue Later Fails file
 due_later Refuses Later Fails since (known.File file) due = due

@@ -73,7 +73,7 @@ with_file all file = record { files = all.files ++ file ∷ []; past = all.past;
 abbrev pub first_left : NextFiles → Ahead
 first_left all = shown all.digested (get_or all.files all.past known.Unknown)
 
--- What speaks for a file that is refused in its turn: that one was not opened, or that a read failed.
+-- The evidence for a file that is refused in its turn: a file was not opened, or a read failed.
 abbrev pub IsDue : Type 0 → Type 0 → Ahead → Type 0
 IsDue Refuses Fails (known.File file) = file.whole ≡ false → Fails
 IsDue Refuses Fails known.Absent = Refuses

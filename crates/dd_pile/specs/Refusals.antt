@@ -35,7 +35,7 @@ IsOfList ListUnsent = Unit {0}
 IsOfList Memory = Unit {0}
 IsOfList refusal = ⊥
 
--- What speaks for a refusal: the files have refused a call, a read of one of their readers has failed, or a write to
+-- The evidence for a refusal: the files have refused a call, a read of one of their readers has failed, or a write to
 -- them.
 abbrev pub IsDueTo : {R : Type 0} → ReadOf R → ℕ → ℕ → StageRefusal → Type 0
 IsDueTo reads refusals failures (Absent at) = HasCounted refusals

@@ -1,4 +1,4 @@
--- What speaks for a fault of a run speaks for it in a run of another kind.
+-- Evidence for a fault of making a file-set, or of an engine, is evidence for it in a run.
 use Rattle.std.proofs.Common.{ℕ, Bool}
 use Rattle.dd_elem.specs.declared.device.Read.{Ghosts as ReadOf}
 use Rattle.dd_file_set.specs.Reasons.{IsDueTo}

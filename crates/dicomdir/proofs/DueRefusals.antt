@@ -1,4 +1,4 @@
--- What speaks for a refusal of a run.
+-- The evidence for a refusal of a run.
 use Rattle.std.proofs.Common.{◌≡◌, ℕ, Bool, Err, List, Option, subst, sym}
 use Rattle.dd_elem.specs.declared.device.Read.{Ghosts as ReadOf}
 use Rattle.dd_file_set.specs.declared.refusal.ProgramFault.{ProgramFault}
@@ -19,7 +19,7 @@ whole_failed reads reader fault limit given left old is h =
     failed_reader reads reader old
     (subst (λ (one : ReadFault). IsWholeAnswer (Err one) limit given left old (reads.failures reader)) is h).1
 
--- what speaks for a fault speaks for the refusal that has it
+-- evidence for a fault is evidence for the refusal that has it
 pub due_of : {R : Type 0} (reads : ReadOf R) (refusals failures : ℕ) (strict : Bool) (refusal : Refusal)
     (subject : Subject) (fault : ProgramFault) → refusal ≡ record { subject = subject; fault = fault }
     → IsDue reads refusals failures strict fault → IsDue reads refusals failures strict refusal.fault

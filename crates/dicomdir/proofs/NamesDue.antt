@@ -1,4 +1,4 @@
--- What speaks for a fault of the list of names.
+-- The evidence for a fault of the list of names.
 use Rattle.std.proofs.Common.{◌≡◌, ℕ, Bool, List, Option, Some, inl, inr, sym, subst}
 use Rattle.std.specs.Prelude.{◌⊎◌, IfErr, Result, Ok, Err}
 use Rattle.dd_elem.specs.declared.device.Read.{Ghosts as ReadOf}
@@ -15,7 +15,8 @@ use Rattle.dicomdir.specs.ListedNames.{FailsAt, list_of, parts}
 use Rattle.dicomdir.specs.Reasons.{IsDueBefore, IsDueToList}
 
 -- a name in the list that was read is bad, or an allocation was refused
-pub bad_name_due : {R : Type 0} (reads : ReadOf R) (refusals : ℕ) (r : Request) (files : Option Held) (fault : ProgramFault) (path bytes : List ℕ) (goes : Bool) → list_of r ≡ Some path
+pub bad_name_due : {R : Type 0} (reads : ReadOf R) (refusals : ℕ) (r : Request) (files : Option Held)
+    (fault : ProgramFault) (path bytes : List ℕ) (goes : Bool) → list_of r ≡ Some path
     → HasBytes path bytes files → keeps_going r ≡ goes
     → (fault ≡ Memory) ⊎ ((number : ℕ) × (fault ≡ BadName number) × FailsAt goes (parts bytes) number)
     → IsDueToList reads refusals r files fault

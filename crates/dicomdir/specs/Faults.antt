@@ -33,8 +33,8 @@ pub record IsBelow (folder : List ℕ) (path : Option (List ℕ)) : Type 0 where
   pub name : List ℕ
   pub inside : IsInside folder name path
 
--- This path is concerned, where a run makes this folder of these sources, or of those that the list names. Which path
--- was not stored, the files say.
+-- The path that the line of a refusal has. `folder` is what the run makes, `sources` are what it reads, and `list` is
+-- the file with further names. Of what was not stored, the files name the path.
 abbrev pub Concerns : List ℕ → List (List ℕ) → List ℕ → Subject → Option (List ℕ) → Type 0
 Concerns folder sources list subject.General path = path ≡ None
 Concerns folder sources list (subject.Source at) path = path ≡ Some (path_at sources at)
@@ -81,7 +81,7 @@ pub record TellsFault {W : Type 0} (writer : WriteOf W) (style : Style) (path : 
     pub told : TakesText writer old new (fault_line style path words fault hints)
         ⊎ FailsInText writer old new (fault_line style path words fault hints)
 
--- the same with the path that the subject concerns
+-- the same with the path of the subject
 pub record TellsOf {W : Type 0} (writer : WriteOf W) (style : Style) (folder : List ℕ) (sources : List (List ℕ))
     (list : List ℕ) (subject : Subject) (old new : W) : Type 0 where
   pub path : Option (List ℕ)
@@ -109,7 +109,7 @@ is_verbose (Publish x) = x.new_set.verbose
 is_verbose (Check x) = x.verbose
 is_verbose (ListSet x) = x.verbose
 
--- the list of names, as it is given
+-- the path of the list of names, as the command line spells it
 abbrev pub given_list : Request → List ℕ
 given_list (Index x) = option_map_or string_bytes x.sources.files0_from []
 given_list (Merge x) = option_map_or string_bytes x.sets.files0_from []
@@ -119,7 +119,7 @@ given_list (Publish x) = option_map_or string_bytes x.piles.files0_from []
 given_list (Check x) = []
 given_list (ListSet x) = []
 
--- no line of hints follows: they are members of an object, or nobody wants them
+-- no line of hints follows: hints are members of the object, or the line has `--quiet` without `--verbose`
 abbrev pub HasNoHints : Request → Type 0
 HasNoHints r = (is_json r ≡ true) ⊎ ((is_quiet r ≡ true) × (is_verbose r ≡ false))
 

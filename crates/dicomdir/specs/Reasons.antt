@@ -1,4 +1,4 @@
--- Why a run is refused: what speaks for each fault.
+-- Why a run is refused: the evidence that each fault has.
 use Rattle.std.specs.Prelude.{◌≡◌, ◌⊎◌, ℕ, Bool, true, List, Option, Some, string_bytes}
 use Rattle.dd_elem.specs.declared.device.Read.{Ghosts as ReadOf}
 use Rattle.dd_file_set.specs.Made.{HasBytes}
@@ -15,10 +15,10 @@ use Rattle.dd_line.specs.declared.request.Request.TheVariants.{Stage}
 use Rattle.dicomdir.specs.From.{from_in, looked_up}
 use Rattle.dicomdir.specs.ListedNames.{FailsAt, list_of, parts}
 
--- ---- of the work
+-- ---- in the work
 
 -- The files have refused a call, a read of one of their readers has failed or a write to them, or the line is strict.
--- What speaks for other faults, the engines say.
+-- Other faults have no evidence here.
 abbrev pub IsDue : {R : Type 0} → ReadOf R → ℕ → ℕ → Bool → ProgramFault → Type 0
 IsDue reads refusals failures strict Absent = HasCounted refusals
 IsDue reads refusals failures strict Unread = HasFailedReader reads
@@ -31,7 +31,7 @@ IsDue reads refusals failures strict (SetId bad) = ⊥
 IsDue reads refusals failures strict (BadName number) = ⊥
 IsDue reads refusals failures strict fault = Unit {0}
 
--- what an engine says, and what speaks for it; or an allocation was refused
+-- a fault of an engine, or a refused allocation, which have no evidence here
 abbrev pub IsOfEngine : ProgramFault → Type 0
 IsOfEngine (Plan fault) = Unit {0}
 IsOfEngine TooLong = Unit {0}
@@ -42,7 +42,7 @@ IsOfEngine (Own fault) = Unit {0}
 IsOfEngine Memory = Unit {0}
 IsOfEngine fault = ⊥
 
--- ---- of what comes before it
+-- ---- before the work
 
 -- this is so of the bytes of the list of names
 pub record IsOfList (r : Request) (Is : List ℕ → Type 0) (files : Option Held) : Type 0 where
@@ -67,7 +67,7 @@ IsDueToList reads refusals r files (BadName number) =
 IsDueToList reads refusals r files Memory = Unit {0}
 IsDueToList reads refusals r files fault = ⊥
 
--- that, or what is to be made stands already
+-- or what is to be made may be there already
 abbrev pub IsDueBefore : {R : Type 0} → ReadOf R → ℕ → (List ℕ → Type 0) → Request → Option Held → ProgramFault → Type 0
 IsDueBefore reads refusals may_be_taken r files Create = StandsAlready may_be_taken r files
 IsDueBefore reads refusals may_be_taken r files fault = IsDueToList reads refusals r files fault

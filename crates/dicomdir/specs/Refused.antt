@@ -27,14 +27,14 @@ refuses_notes (Publish x) = x.new_set.strict
 refuses_notes (Check x) = false
 refuses_notes (ListSet x) = false
 
--- This speaks for the fault: a path of the line is empty, or something before the work does or in it, or an allocation
--- was refused.
+-- The evidence for the fault: a path of the line is empty, there is evidence from before the work or from the work, or
+-- it says that an allocation was refused, which has none.
 abbrev pub IsDueOf : {R : Type 0} → ReadOf R → ℕ → ℕ → (List ℕ → Type 0) → Request → Option Held → ProgramFault → Type 0
 IsDueOf reads refusals failures may_be_taken r files fault = RequestsEmptyPath r
     ⊎ (IsDueBefore reads refusals may_be_taken r files fault
     ⊎ (IsDue reads refusals failures (refuses_notes r) fault ⊎ (fault ≡ Memory)))
 
--- the sources that a refusal may name: those that the line gives and, once they are read, those that its list names
+-- A refusal may name one of these sources: those on the command line and, after the list was read, those in the list.
 abbrev pub MayNameOf : Request → Option Held → List Text → Type 0
 MayNameOf r files sources = (sources ≡ words_of (read_of r)) ⊎ ((bad : List ℕ)
     × FindsSources (keeps_going r) (list_of r) (words_of (read_of r)) files sources bad)

@@ -193,7 +193,7 @@ fn place_at(places: &[Place], at: usize) -> Place
     }
 }
 
-/// Gives the path with this number, or an empty one where there is none.
+/// Gives the path with this number. The answer is an empty text if no path has it.
 fn path_at(paths: &[String], at: usize) -> &str
     ensures { IsPathAt (map (λ path. string_bytes path) paths.now) at result.now }
 {

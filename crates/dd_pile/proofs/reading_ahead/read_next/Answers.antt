@@ -1,4 +1,4 @@
--- What spoke for the refusals of the files before speaks for them still, and it speaks for that of one more.
+-- The evidence for the files before is still evidence, and there is some for one more.
 use Rattle.dd_files.proofs.Reasons.{has_counted}
 use Rattle.dd_files.specs.Reasons.{HasCounted, HasFailedReader}
 use Rattle.dd_filing.specs.declared.places.Ahead.TheVariants as known

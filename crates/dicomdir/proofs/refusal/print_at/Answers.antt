@@ -1,4 +1,4 @@
--- The path is that of the parts.
+-- The path in the line is made of the three parts, one after the other.
 use Rattle.std.proofs.Common.{Some, ap, append-nil, ◌∙◌, ◌++◌, ◌∷◌, [], ℕ, List}
 use Rattle.std.specs.Prelude.{codes}
 use Rattle.dd_json.proofs.ValueTexts.{value-Texts}
