@@ -50,6 +50,9 @@ pub trait Files: Write {
     // Something may be at this path.
     ghost is_taken: { Self → List ℕ → Type 0 };
 
+    // A folder was made at this path, or was there.
+    ghost has_folder: { Self → List ℕ → Type 0 };
+
     /// Says how many files are digested at once.
     fn lanes(&self) -> Lanes;
 
@@ -84,12 +87,14 @@ pub trait Files: Write {
     /// Makes a folder with its parents. Succeeds where it is there already.
     fn folder(&mut self, path: &str) -> Result<(), NotDone>
         ensures call { IsCall Self.Write refusals held result self.old self.new }
+        ensures made { IsOk result → has_folder self.new path.now }
         ensures kept { held self.new ≡ held self.old }
         ensures bytes { Self.contents self.new ≡ Self.contents self.old };
 
     /// Makes a folder below `out` as `folder` does. Refuses a symbolic link below `out`, and makes nothing through it.
     fn folder_in(&mut self, out: &str, path: &str) -> Result<(), NotDone>
         ensures call { IsCall Self.Write refusals held result self.old self.new }
+        ensures made { IsOk result → has_folder self.new path.now }
         ensures kept { held self.new ≡ held self.old }
         ensures bytes { Self.contents self.new ≡ Self.contents self.old };
 
@@ -103,6 +108,7 @@ pub trait Files: Write {
     /// Starts a new file, to which later writes go. Refused where the name is taken.
     fn create(&mut self, path: &str) -> Result<(), NotDone>
         ensures call { IsCall Self.Write refusals held result self.old self.new }
+        ensures folders { (folder : List ℕ) → has_folder self.old folder → has_folder self.new folder }
         ensures free { IsOk result
             → IfSome (held self.old) (λ files. files.bytes_at path.now ≡ None) }
         ensures empty { IsOk result → IfSome (Self.contents self.new) (λ bytes. bytes ≡ []) }

@@ -11,6 +11,9 @@ pub enum Step {
 
 /// Files that show how far a run over them is. No call changes files or counts.
 pub trait Progress: Files {
+    // No later call shows progress.
+    ghost is_silent: { Self → Type 0 };
+
     /// Starts a step, with none of `of` done.
     fn begin_step(&mut self, step: Step, of: u64)
         ensures { IsUnchanged Self.Write Self.Files.own self.old self.new };
@@ -25,5 +28,6 @@ pub trait Progress: Files {
 
     /// Shows no progress from now on.
     fn silence(&mut self)
-        ensures { IsUnchanged Self.Write Self.Files.own self.old self.new };
+        ensures unchanged { IsUnchanged Self.Write Self.Files.own self.old self.new }
+        ensures silent { is_silent self.new };
 }

@@ -22,6 +22,8 @@ impl Files for MemFiles {
 
     ghost is_taken = { λ _ _. Unit {0} };
 
+    ghost has_folder = { λ _ _. Unit {0} };
+
     /// Opens a copy of the file's bytes. NotThere where the call is to be refused, there is no such file, an allocation
     /// is refused or the refusals are at their last value. That counts as no opening.
     fn source(&mut self, path: &str) -> Result<MemReader, NotThere>
@@ -244,6 +246,8 @@ impl Files for MemFiles {
 
 /// Shows no progress.
 impl Progress for MemFiles {
+    ghost is_silent = { λ _. Unit {0} };
+
     fn begin_step(&mut self, _step: Step, _of: u64)
         ensures { self.new ≡ self.old }
     {}

@@ -1,5 +1,5 @@
 //! Implements the traits of dd_files.
-ghost use Rattle.std.specs.Prelude.{ℕ, None, refl};
+ghost use Rattle.std.specs.Prelude.{◌≡◌, ℕ, None, refl};
 
 use crate::again::{Links, is_folder, look};
 use crate::counted::{Counted, write_again};
@@ -40,6 +40,8 @@ impl<'a, R: System> Files for HostFiles<'a, R> {
     ghost held = { λ _. None };
 
     ghost is_taken = { λ _ _. Unit {0} };
+
+    ghost has_folder = { λ _ _. Unit {0} };
 
     fn source(&mut self, path: &str) -> Result<Self::In, NotThere> {
         let last = self.last;
@@ -174,6 +176,8 @@ impl<'a, R: System> Files for HostFiles<'a, R> {
 }
 
 impl<R: System> Progress for HostFiles<'_, R> {
+    ghost is_silent = { λ s. s.progress.terminal ≡ None };
+
     fn begin_step(&mut self, step: Step, of: u64) {
         self.progress.begin(self.rt, step, of);
     }

@@ -1,4 +1,4 @@
-ghost use Rattle.std.specs.Prelude.{◌≡◌, ◌≤◌, ◌<◌, ◌+◌, ◌++◌, length};
+ghost use Rattle.std.specs.Prelude.{◌≡◌, ◌≤◌, ◌<◌, ◌+◌, ◌++◌, None, length};
 ghost use Rattle.std.specs.Fmt.InlineText.{inline_text};
 ghost use Rattle.dicomdir_host.specs.ProgressLine.{progress_line};
 
@@ -128,7 +128,9 @@ impl<W: io::Write + Drop> ProgressLine<W> {
     }
 
     /// Shows no line from then on.
-    pub(crate) fn end(&mut self) {
+    pub(crate) fn end(&mut self)
+        ensures { self.new.terminal ≡ None }
+    {
         self.hide();
         self.terminal = None;
     }
