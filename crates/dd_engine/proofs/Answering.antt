@@ -3,7 +3,7 @@ use Rattle.std.proofs.Common.{◌≡◌, ◌≢◌, ◌<◌, ◌≤◌, ◌+◌,
 use Rattle.std.proofs.Common.{Option, Some, None, Ok, Err, refl, sym, ap, subst, inl, inr, ◌∙◌, arith}
 use Rattle.std.proofs.lemmas.List.{append-nil, length-append, map-append}
 use Rattle.std.proofs.lemmas.Bool.{cases_eq}
-use Rattle.std.specs.Prelude.{IfErr, IfSome, slice_get}
+use Rattle.std.specs.Prelude.{IfErr, IfSome, min, slice_get}
 use Rattle.std.specs.Io.KnownBytes.{Consumes}
 use Rattle.dd_slots.specs.declared.slot.Slot.{Slot}
 use Rattle.dd_elem.specs.Device.{HasFailed, HasWorked, IsLive, counted, last_count}
@@ -20,7 +20,7 @@ use Rattle.dd_engine.specs.declared.engine_fault.EngineFault.{EngineFault}
 use Rattle.dd_engine.specs.declared.engine_fault.EngineFault.TheVariants.{Memory, Absent, Unread, Plan}
 use Rattle.dd_engine.specs.declared.sources.Sources.{Sources}
 use Rattle.dd_engine.specs.Supply.{AllStay, OthersStay, StayBelow, EndsWith, added}
-use Rattle.dd_engine.specs.Supply.{AnswersSource, AreAnswers, Holds, IsAnswer, IsOfSource}
+use Rattle.dd_engine.specs.Supply.{AnswersSource, AreAnswers, HasGivenAll, Holds, IsAnswer, IsOfSource}
 use Rattle.dd_engine.proofs.Settling.{none_open, other_next}
 
 -- ---- a reader's answer is its source's answer
@@ -90,6 +90,44 @@ source_answer limit contents start left given old new answer same known h settle
   right = contents_right limit contents left given old new answer (consumes_contents contents start left given same
       known) h settled;
 }
+
+-- ---- how many bytes a reader gave
+
+-- a reader that was read to its end, or past the limit
+all_given : (limit : ℕ) (file given rest : List ℕ) (old new : ℕ) (answer : Answer) → file ≡ given ++ rest
+    → AnswersReader limit given (Some rest) old new answer → IfErr answer IsOfSource → length file ≤ limit
+    → length given ≡ length file
+all_given limit file given rest old new answer all h settled within = by answer h settled
+  where
+    size : length file ≡ length given + length rest
+    size = ap length all ∙ length-append given rest
+
+    whole : rest ≡ [] → length given ≡ length file
+    whole ended = let none : length rest ≡ 0 = ap length ended in omega (arith, size, none)
+
+    by : (one : Answer) → AnswersReader limit given (Some rest) old new one → IfErr one IsOfSource
+        → length given ≡ length file
+    by (Ok version) h settled = whole (h.ended (λ e. cc) (λ e. cc)).1
+    by (Err FileTooLong) h settled = let many = (h.long refl).0 in absurd (omega (arith, size, many, within))
+    by (Err fault) h settled = whole (h.ended (λ e. settled.0 (cc)) (λ e. cc)).1
+
+-- the bytes of a source were counted, where the reader's are
+pub has_given_all : (limit : ℕ) (contents start left : Option (List ℕ)) (given : List ℕ) (old new : ℕ) (answer : Answer)
+    (was_given : List ℕ → Type 0) (counted : Option ℕ) → IfSome contents (λ file. start ≡ Some file)
+    → Consumes start left given → AnswersReader limit given left old new answer → IfErr answer IsOfSource
+    → IfSome counted (λ count. (bytes : List ℕ) → was_given bytes → count ≡ min (length bytes) last_count)
+    → was_given given → HasGivenAll limit contents counted
+has_given_all limit None start left given old new answer was_given counted same known h settled counts gave = tt
+has_given_all limit (Some file) start left given old new answer was_given None same known h settled counts gave =
+    λ within. tt
+has_given_all limit (Some file) start None given old new answer was_given (Some count) same known h settled counts
+    gave =
+    absurd (subst (λ (first : Option (List ℕ)). Consumes first None given) same known)
+has_given_all limit (Some file) start (Some rest) given old new answer was_given (Some count) same known h settled
+    counts gave = λ within.
+    let all = subst (λ (first : Option (List ℕ)). Consumes first (Some rest) given) same known in
+    counts given gave ∙ ap (λ (n : ℕ). min n last_count) (all_given limit file given rest old new answer all h settled
+    within)
 
 -- ---- the counts of sources
 

@@ -1,7 +1,7 @@
 -- Readers that are lent and taken back, and how often they read.
-use Rattle.std.proofs.Common.{◌≡◌, ◌<◌, ◌≤◌, ◌+◌, ◌-◌, ℕ, sym, subst, inl, inr, ◌∙◌, arith}
+use Rattle.std.proofs.Common.{◌≡◌, ◌<◌, ◌≤◌, ◌+◌, ◌-◌, ℕ, List, Option, sym, subst, inl, inr, ◌∙◌, arith}
 use Rattle.std.proofs.lemmas.Bool.{cases_eq}
-use Rattle.dd_engine.specs.Supply.{AllStay, EachGrows, IsUsed, OthersStay, added}
+use Rattle.dd_engine.specs.Supply.{AllStay, EachGrows, HasGivenAll, IsUsed, OthersStay, added}
 
 -- ---- a reader of one source, which was lent, is taken back
 
@@ -51,3 +51,20 @@ still_later at old mid new later others = record {
   stays = λ other above.
       others.stays other (λ is. absurd (omega (arith, is, above))) ∙ later.stays other (omega (arith, above));
 }
+
+-- the sources so far were read whole, and now the next one was, too
+pub given_more : (limit at : ℕ) (contents now : ℕ → Option (List ℕ)) (mid new : ℕ → Option ℕ)
+    → ((before : ℕ) → before < at → HasGivenAll limit (contents before) (mid before)) → OthersStay at mid new
+    → now ≡ contents → HasGivenAll limit (now at) (new at)
+    → (before : ℕ) → before < at + 1 → HasGivenAll limit (contents before) (new before)
+given_more limit at contents now mid new h others same last before below = elim (cases_eq before at) [
+  | inl is ↦ subst (λ (n : ℕ). HasGivenAll limit (contents n) (new n)) (sym is)
+      (subst (λ (all : ℕ → Option (List ℕ)). HasGivenAll limit (all at) (new at)) same last)
+  | inr apart ↦ subst (λ (count : Option ℕ). HasGivenAll limit (contents before) count)
+      (sym (others.stays before apart)) (h before (omega (arith, below, apart)))
+]
+
+pub others_later : {A : Type 0} (at : ℕ) (old mid new : ℕ → A) → AllStay old mid → OthersStay at mid new
+    → OthersStay at old new
+others_later at old mid new all others =
+    record { stays = λ other apart. others.stays other apart ∙ all.stays other }

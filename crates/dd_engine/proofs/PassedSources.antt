@@ -7,7 +7,7 @@ use Rattle.std.proofs.lemmas.List.{map-append}
 use Rattle.dd_elem.specs.Device.{HasFailed, counted}
 use Rattle.dd_layout.specs.Limits.{Limits}
 use Rattle.dd_engine.specs.Batches.{HoldsOpen}
-use Rattle.dd_engine.specs.Indexed.{Indexes}
+use Rattle.dd_engine.specs.Indexed.{Indexes, ReadsAll}
 use Rattle.dd_engine.specs.IndexNotes.{ConflictsIn}
 use Rattle.dd_engine.specs.declared.batch.Batch.{Batch}
 use Rattle.dd_engine.specs.declared.choice.Choice.{Choice}
@@ -50,9 +50,17 @@ source_ends at sources (Unread number) refusals refused unread failed there h =
     )
 source_ends at sources (Plan fault) refusals refused unread failed there h = absurd h
 
+-- where reading ended with a fault, the sources were not all read
+pub not_all_read : (fault : EngineFault) (sources : ℕ) (refusals refused unread failed : ℕ → ℕ)
+    → EndsWith fault sources refusals refused unread failed → ReadsAll (Err fault) → ⊥
+not_all_read Memory sources refusals refused unread failed h all = all
+not_all_read (Absent at) sources refusals refused unread failed h all = all
+not_all_read (Unread at) sources refusals refused unread failed h all = all
+not_all_read (Plan fault) sources refusals refused unread failed h all = h
+
 -- ---- each that fails
 
-pub all_others : (at : ℕ) (old new : ℕ → ℕ) → AllStay old new → OthersStay at old new
+pub all_others : {A : Type 0} (at : ℕ) (old new : ℕ → A) → AllStay old new → OthersStay at old new
 all_others at old new all = record { stays = λ other _. all.stays other }
 
 -- the counts that failing changes are those of the source
@@ -71,13 +79,16 @@ unread_of_one at Memory refusals refused unread failed one h = absurd one
 unread_of_one at (Plan fault) refusals refused unread failed one h = absurd one
 
 -- the reading of a source that fails
-pub failed_reading : (limit : ℕ) (contents : Option (List ℕ)) (at : ℕ) (fault : EngineFault)
-    (refusals refused unread failed : ℕ → ℕ) → IsOfOne fault → FailsSource at fault refusals refused unread failed
-    → IsReading limit contents at (Err fault) (refusals at) (refused at) (unread at) (failed at)
-failed_reading limit contents at (Absent number) refusals refused unread failed one h = (h.0, h.1, h.3.stays at)
-failed_reading limit contents at (Unread number) refusals refused unread failed one h = (h.0, h.3.stays at, h.1)
-failed_reading limit contents at Memory refusals refused unread failed one h = absurd one
-failed_reading limit contents at (Plan fault) refusals refused unread failed one h = absurd one
+pub failed_reading : (limit : ℕ) (contents : Option (List ℕ)) (There : Type 0) (given : Option ℕ) (at : ℕ)
+    (fault : EngineFault) (refusals refused unread failed : ℕ → ℕ) → IsOfOne fault
+    → FailsSource at fault refusals refused unread failed
+    → IsReading limit contents There given at (Err fault) (refusals at) (refused at) (unread at) (failed at)
+failed_reading limit contents There given at (Absent number) refusals refused unread failed one h =
+    (h.0, h.1, h.3.stays at)
+failed_reading limit contents There given at (Unread number) refusals refused unread failed one h =
+    (h.0, h.3.stays at, h.1)
+failed_reading limit contents There given at Memory refusals refused unread failed one h = absurd one
+failed_reading limit contents There given at (Plan fault) refusals refused unread failed one h = absurd one
 
 none_at_end : {A : Type 0} (P : A → Type 0) (list : List A) (at : ℕ) → at ≡ length list → IfSome (slice_get list at) P
 none_at_end P [] at is = tt
@@ -98,42 +109,47 @@ if_some P Q (one ∷ list) zero f h = f one h
 if_some P Q (one ∷ list) (suc at) f h = if_some P Q list at f h
 
 -- the readings with that of the next source, whose counts alone changed
-module _ (limit next : ℕ) (contents : ℕ → Option (List ℕ)) (first refusals refused start unread failed : ℕ → ℕ) where
+module _ (limit next : ℕ) (contents : ℕ → Option (List ℕ)) (There : ℕ → Type 0) (before given : ℕ → Option ℕ)
+    (first refusals refused start unread failed : ℕ → ℕ) where
   abbrev Was : ℕ → Reading → Type 0
-  Was at one = IsReading limit (contents at) at one (first at) (refusals at) (start at) (unread at)
+  Was at one =
+      IsReading limit (contents at) (There at) (before at) at one (first at) (refusals at) (start at) (unread at)
 
   abbrev Is : ℕ → Reading → Type 0
-  Is at one = IsReading limit (contents at) at one (first at) (refused at) (start at) (failed at)
+  Is at one = IsReading limit (contents at) (There at) (given at) at one (first at) (refused at) (start at) (failed at)
 
   abbrev Now : Reading → Type 0
-  Now one = IsReading limit (contents next) next one (refusals next) (refused next) (unread next) (failed next)
+  Now one = IsReading limit (contents next) (There next) (given next) next one (refusals next) (refused next)
+      (unread next) (failed next)
 
   first_counts : (one : Reading) → StayFrom next first refusals → StayFrom next start unread → Now one → Is next one
   first_counts one stay still h =
-      subst (λ (n : ℕ). IsReading limit (contents next) next one (first next) (refused next) n (failed next))
-      (still.stays next (omega arith))
-      (subst (λ (n : ℕ). IsReading limit (contents next) next one n (refused next) (unread next) (failed next))
-      (stay.stays next (omega arith)) h)
+      subst (λ (n : ℕ). IsReading limit (contents next) (There next) (given next) next one (first next) (refused next) n
+      (failed next)) (still.stays next (omega arith))
+      (subst (λ (n : ℕ). IsReading limit (contents next) (There next) (given next) next one n (refused next)
+      (unread next) (failed next)) (stay.stays next (omega arith)) h)
 
-  stays_read : (at : ℕ) → at ≢ next → OthersStay next refusals refused → OthersStay next unread failed
-      → (one : Reading) → Was at one → Is at one
-  stays_read at apart others rest one h =
-      subst (λ (n : ℕ). IsReading limit (contents at) at one (first at) (refused at) (start at) n)
-      (sym (rest.stays at apart))
-      (subst (λ (n : ℕ). IsReading limit (contents at) at one (first at) n (start at) (unread at))
-      (sym (others.stays at apart)) h)
+  stays_read : (at : ℕ) → at ≢ next → OthersStay next before given → OthersStay next refusals refused
+      → OthersStay next unread failed → (one : Reading) → Was at one → Is at one
+  stays_read at apart counts others rest one h =
+      subst (λ (n : Option ℕ). IsReading limit (contents at) (There at) n at one (first at) (refused at) (start at)
+      (failed at)) (sym (counts.stays at apart))
+      (subst (λ (n : ℕ). IsReading limit (contents at) (There at) (before at) at one (first at) (refused at) (start at)
+      n) (sym (rest.stays at apart))
+      (subst (λ (n : ℕ). IsReading limit (contents at) (There at) (before at) at one (first at) n (start at)
+      (unread at)) (sym (others.stays at apart)) h))
 
   pub readings_more : (readings : List Reading) (reading : Reading) → length readings ≡ next
-      → AreReadings limit contents readings first refusals start unread
-      → StayFrom next first refusals → StayFrom next start unread → OthersStay next refusals refused
-      → OthersStay next unread failed → Now reading
-      → AreReadings limit contents (readings ++ reading ∷ []) first refused start failed
-  readings_more readings reading many right stay still others rest last = record {
+      → AreReadings limit contents There before readings first refusals start unread
+      → StayFrom next first refusals → StayFrom next start unread → OthersStay next before given
+      → OthersStay next refusals refused → OthersStay next unread failed → Now reading
+      → AreReadings limit contents There given (readings ++ reading ∷ []) first refused start failed
+  readings_more readings reading many right stay still counts others rest last = record {
     each = λ at. elim (cases_eq at next) [
       | inl is ↦ one_more (Is at) readings reading at (none_at_end (Is at) readings at (is ∙ sym many))
           (λ _. subst (λ (n : ℕ). Is n reading) (sym is) (first_counts reading stay still last))
       | inr apart ↦ one_more (Is at) readings reading at
-          (if_some (Was at) (Is at) readings at (stays_read at apart others rest) (right.each at))
+          (if_some (Was at) (Is at) readings at (stays_read at apart counts others rest) (right.each at))
           (λ end. absurd (apart (end ∙ many)))
     ];
   }

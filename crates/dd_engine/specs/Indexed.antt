@@ -62,6 +62,12 @@ IsNamed sources (Absent at) = at < sources
 IsNamed sources (Unread at) = at < sources
 IsNamed sources fault = Unit {0}
 
+-- each source was read, whether their versions have a plan or not
+abbrev pub ReadsAll : Result Indexed EngineFault → Type 0
+ReadsAll (Ok indexed) = Unit {0}
+ReadsAll (Err (Plan fault)) = Unit {0}
+ReadsAll (Err fault) = ⊥
+
 -- Indexing `sources` sources ended with a fault. The refusals were `refusals` and are `refused`, and the failures of
 -- their readers were `unread` and are `failed`. Where memory ran out, or the versions have no place in a directory, no
 -- source failed.

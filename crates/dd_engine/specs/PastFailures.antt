@@ -12,7 +12,7 @@ use Rattle.dd_engine.specs.declared.supply.Supply.{Ghosts as SupplyOf}
 use Rattle.dd_engine.specs.Indexed.{Indexes}
 use Rattle.dd_engine.specs.IndexNotes.{ConflictsIn, NotesIndex}
 use Rattle.dd_engine.specs.Indexing.{Answer}
-use Rattle.dd_engine.specs.Supply.{AllStay, IsAnswer, OthersStay}
+use Rattle.dd_engine.specs.Supply.{AllStay, HasGivenAll, IsAnswer, OthersStay}
 
 -- ---- what became of one source
 
@@ -35,15 +35,17 @@ FailsSource at (Unread number) refusals refused unread failed = (number ≡ at) 
 FailsSource at Memory refusals refused unread failed = AllStay refusals refused × AllStay unread failed
 FailsSource at (Plan fault) refusals refused unread failed = ⊥
 
--- by the counts of a source before and after, it has this answer, or it could not be opened or read
-abbrev pub IsReading : ℕ → Option (List ℕ) → ℕ → Reading → ℕ → ℕ → ℕ → ℕ → Type 0
-IsReading limit contents at (Ok answer) refusals refused unread failed =
-    IsAnswer limit contents answer × (refused ≡ refusals) × (failed ≡ unread)
-IsReading limit contents at (Err (Absent number)) refusals refused unread failed =
+-- By the counts of a source before and after, it has this answer, or it could not be opened or read. A source that has
+-- one is there, and all its bytes were counted.
+abbrev pub IsReading : ℕ → Option (List ℕ) → Type 0 → Option ℕ → ℕ → Reading → ℕ → ℕ → ℕ → ℕ → Type 0
+IsReading limit contents There given at (Ok answer) refusals refused unread failed =
+    IsAnswer limit contents answer × (refused ≡ refusals) × (failed ≡ unread) × There
+    × HasGivenAll limit contents given
+IsReading limit contents There given at (Err (Absent number)) refusals refused unread failed =
     (number ≡ at) × (refused ≡ counted refusals) × (failed ≡ unread)
-IsReading limit contents at (Err (Unread number)) refusals refused unread failed =
+IsReading limit contents There given at (Err (Unread number)) refusals refused unread failed =
     (number ≡ at) × (refused ≡ refusals) × HasFailed unread failed
-IsReading limit contents at (Err fault) refusals refused unread failed = ⊥
+IsReading limit contents There given at (Err fault) refusals refused unread failed = ⊥
 
 -- the fault is that of a source, past which an index can go on
 abbrev pub IsOfOne : EngineFault → Type 0
@@ -55,10 +57,10 @@ IsOfOne (Plan fault) = ⊥
 -- ---- what became of all
 
 -- they are the readings of the first sources
-pub record AreReadings (limit : ℕ) (contents : ℕ → Option (List ℕ)) (readings : List Reading)
-    (refusals refused unread failed : ℕ → ℕ) : Type 0 where
-  pub each : (at : ℕ) → IfSome (slice_get readings at) (λ reading.
-      IsReading limit (contents at) at reading (refusals at) (refused at) (unread at) (failed at))
+pub record AreReadings (limit : ℕ) (contents : ℕ → Option (List ℕ)) (There : ℕ → Type 0) (given : ℕ → Option ℕ)
+    (readings : List Reading) (refusals refused unread failed : ℕ → ℕ) : Type 0 where
+  pub each : (at : ℕ) → IfSome (slice_get readings at) (λ reading. IsReading limit (contents at) (There at) (given at)
+      at reading (refusals at) (refused at) (unread at) (failed at))
 
 -- the answers of these readings
 abbrev pub answers_of : List Reading → List Answer
@@ -76,8 +78,8 @@ module _ {S In : Type 0} (supply : SupplyOf S In) where
   -- these are the readings of all sources of the supply
   pub record AreAllReadings (limit : ℕ) (readings : List Reading) (old new : S) : Type 0 where
     pub count : length readings ≡ supply.sources old
-    pub right : AreReadings limit (supply.contents old) readings (supply.refusals old) (supply.refusals new)
-        (supply.unread old) (supply.unread new)
+    pub right : AreReadings limit (supply.contents old) (supply.is_there (supply.rest old)) (supply.given new) readings
+        (supply.refusals old) (supply.refusals new) (supply.unread old) (supply.unread new)
 
   -- the supply was read to its end, and the index of the answers is this
   abbrev pub NotesPast : Choice → Limits → ℕ → PastFailures → S → S → Type 0

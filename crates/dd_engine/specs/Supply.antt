@@ -18,11 +18,11 @@ abbrev pub added : ℕ → ℕ → ℕ
 added n m = min (n + m) last_count
 
 -- the counts of all sources are as they were
-pub record AllStay (old new : ℕ → ℕ) : Type 0 where
+pub record AllStay {A : Type 0} (old new : ℕ → A) : Type 0 where
   pub stays : (at : ℕ) → new at ≡ old at
 
 -- the counts of all sources but one are
-pub record OthersStay (at : ℕ) (old new : ℕ → ℕ) : Type 0 where
+pub record OthersStay {A : Type 0} (at : ℕ) (old new : ℕ → A) : Type 0 where
   pub stays : (other : ℕ) → other ≢ at → new other ≡ old other
 
 -- a source can be opened: there is one of this number, and no count of it is at the last value
@@ -53,6 +53,18 @@ pub record TakesBack (at sources : ℕ) (old new : ℕ → ℕ) : Type 0 where
 pub record AddsTo (at sources more : ℕ) (old new : ℕ → ℕ) : Type 0 where
   pub here : at < sources → new at ≡ added (old at) more
   pub others : OthersStay at old new
+
+-- Where the bytes of a reader of this source are counted, they are those of which `was_given` is so. The counts of all
+-- other sources are as they were.
+pub record CountsGiven (was_given : List ℕ → Type 0) (at sources : ℕ) (old new : ℕ → Option ℕ) : Type 0 where
+  pub here : at < sources
+      → IfSome (new at) (λ count. (bytes : List ℕ) → was_given bytes → count ≡ min (length bytes) last_count)
+  pub others : OthersStay at old new
+
+-- of a source of at most `limit` bytes all were counted, where they are known and counted
+abbrev pub HasGivenAll : ℕ → Option (List ℕ) → Option ℕ → Type 0
+HasGivenAll limit contents given = IfSome contents (λ file. length file ≤ limit
+    → IfSome given (λ count. count ≡ min (length file) last_count))
 
 -- the counts of all sources before one are as they were
 pub record StayBelow (at : ℕ) (old new : ℕ → ℕ) : Type 0 where

@@ -1,6 +1,6 @@
 ghost use Rattle.std.specs.Prelude.{◌≡◌, ◌+◌, IfErr, IfOk, IsOk};
-ghost use Rattle.dd_engine.specs.Indexed.{AnswersSupply, IsNamed, IsWithin};
-ghost use Rattle.dd_engine.specs.Supplies.{IndexingEndsBy};
+ghost use Rattle.dd_engine.specs.Indexed.{AnswersSupply, IsNamed, IsWithin, ReadsAll};
+ghost use Rattle.dd_engine.specs.Supplies.{AllGiven, AllThere, IndexingEndsBy};
 ghost use Rattle.dd_engine.specs.Supply.{AllStay, EachGrows};
 
 use crate::choice::Choice;
@@ -46,6 +46,8 @@ pub fn index_engine<S: Supply>(
 ) -> Result<Indexed, EngineFault>
     ensures answers { AnswersSupply choice.now limits file_limit (S.contents supply.old)
         (S.sources supply.old) result }
+    ensures there { ReadsAll result → AllThere S.Supply supply.old }
+    ensures given { ReadsAll result → AllGiven S.Supply file_limit supply.old supply.new }
     ensures within { IfOk result (IsWithin (S.sources supply.old)) }
     ensures named { IfErr result (IsNamed (S.sources supply.old)) }
     ensures fault { IfErr result (λ fault. IndexingEndsBy S.Supply fault supply.old supply.new) }

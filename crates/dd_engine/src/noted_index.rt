@@ -1,9 +1,9 @@
 ghost use Rattle.std.specs.Prelude.{◌≡◌, ◌+◌, List, IfErr, IfOk, IsOk, length};
-ghost use Rattle.dd_engine.specs.Indexed.{IsNamed, IsWithin};
+ghost use Rattle.dd_engine.specs.Indexed.{IsNamed, IsWithin, ReadsAll};
 ghost use Rattle.dd_engine.specs.Indexing.{Answer};
-ghost use Rattle.dd_engine.specs.IndexNotes.{FindsBoth, NotesIndex, NotesSupply};
+ghost use Rattle.dd_engine.specs.IndexNotes.{FindsBoth, NotesIndex, NotesSupply, unnoted};
 ghost use Rattle.dd_engine.specs.Noting.{AreBelow, IsBelow};
-ghost use Rattle.dd_engine.specs.Supplies.{IndexingEndsBy};
+ghost use Rattle.dd_engine.specs.Supplies.{AllGiven, AllThere, IndexingEndsBy};
 ghost use Rattle.dd_engine.specs.Supply.{AllStay, EachGrows, Holds};
 
 use crate::basis::Basis;
@@ -51,6 +51,8 @@ pub fn index_with_notes<S: Supply>(
 ) -> Result<NotedIndex, NotedFault<EngineFault, usize>>
     ensures answers { NotesSupply choice.now limits file_limit (S.contents supply.old)
         (S.sources supply.old) result }
+    ensures there { ReadsAll (unnoted result) → AllThere S.Supply supply.old }
+    ensures given { ReadsAll (unnoted result) → AllGiven S.Supply file_limit supply.old supply.new }
     ensures within { IfOk result (λ noted. IsWithin (S.sources supply.old) noted.indexed) }
     ensures below { IfOk result (λ noted.
         AreBelow (λ at. at) (S.sources supply.old) noted.notes.left_out.items) }

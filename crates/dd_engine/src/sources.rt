@@ -7,8 +7,9 @@ ghost use Rattle.dd_keys.specs.Kept.{digested_by};
 ghost use Rattle.dd_engine.specs.Batches.{HasRoom, HoldsOpen, IsOpenAnswer};
 ghost use Rattle.dd_engine.specs.Indexing.{Answer};
 ghost use Rattle.dd_engine.specs.PastFailures.{FailsSource};
-ghost use Rattle.dd_engine.specs.Supplies.{ReadingEndsBy};
-ghost use Rattle.dd_engine.specs.Supply.{AllStay, AreAnswers, EachGrows, Holds, IsOfSource, IsUsed};
+ghost use Rattle.dd_engine.specs.Supplies.{AllGiven, AllThere, ReadingEndsBy};
+ghost use Rattle.dd_engine.specs.Supply.{AllStay, AreAnswers, EachGrows, HasGivenAll, Holds, IsOfSource, IsUsed};
+ghost use Rattle.dd_engine.specs.Supply.{OthersStay};
 
 use crate::batch::Batch;
 use crate::engine_fault::EngineFault;
@@ -102,6 +103,8 @@ pub(crate) fn read_sources<S: Supply>(
     ensures unread { IsOk result → AllStay (S.unread supply.old) (S.unread supply.new) }
     ensures live { IsOk result → (at : ℕ) → at < S.sources supply.old
         → IsLive (S.refusals supply.old at) (S.unread supply.old at) }
+    ensures there { IsOk result → AllThere S.Supply supply.old }
+    ensures given { IsOk result → AllGiven S.Supply limit supply.old supply.new }
     ensures fault { IfErr result (λ fault. ReadingEndsBy S.Supply fault supply.old supply.new) }
     ensures ended { AllStay (S.lent supply.old) (S.lent supply.new) }
     ensures reads { EachGrows (limit + 1) (S.reads supply.old) (S.reads supply.new) }
@@ -131,6 +134,9 @@ pub(crate) fn read_one<S: Supply>(
     requires { at < S.sources supply.old }
     ensures answer { IfOk result (IsOpenAnswer limit (S.contents supply.old at) slot.new) }
     ensures live { IsOk result → IsLive (S.refusals supply.old at) (S.unread supply.old at) }
+    ensures there { IsOk result → S.is_there (S.rest supply.old) at }
+    ensures given { IsOk result → HasGivenAll limit (S.contents supply.old at) (S.given supply.new at) }
+    ensures others { OthersStay at (S.given supply.old) (S.given supply.new) }
     ensures refusals { IsOk result → AllStay (S.refusals supply.old) (S.refusals supply.new) }
     ensures unread { IsOk result → AllStay (S.unread supply.old) (S.unread supply.new) }
     ensures fault { IfErr result (λ fault. FailsSource at fault (S.refusals supply.old)

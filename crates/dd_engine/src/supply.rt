@@ -1,5 +1,5 @@
 ghost use Rattle.std.specs.Prelude.{◌≡◌, ℕ, List, [], Option, Some, IfSome, IsOk, IfOk};
-ghost use Rattle.dd_engine.specs.Supply.{AddsTo, AllStay, CountsRefusal, IsOpenable, Lends, TakesBack};
+ghost use Rattle.dd_engine.specs.Supply.{AddsTo, AllStay, CountsGiven, CountsRefusal, IsOpenable, Lends, TakesBack};
 
 use dd_elem::Read;
 use dd_files::NotThere;
@@ -33,6 +33,12 @@ pub trait Supply {
 
     ghost rest: { Self → Rest };
 
+    // The source of this number can be opened, as far as that tells.
+    ghost is_there: { Rest → ℕ → Type 0 };
+
+    // How many bytes the reader of each source gave that was taken back last, where they are counted.
+    ghost given: { Self → ℕ → Option ℕ };
+
     /// Says how many sources there are.
     fn count(&self) -> usize
         ensures { result ≡ sources self.now };
@@ -47,11 +53,14 @@ pub trait Supply {
         ensures refusals { CountsRefusal result at (sources self.old)
             (refusals self.old) (refusals self.new) }
         ensures lent { Lends result at (lent self.old) (lent self.new) }
+        ensures there { IsOk result → is_there (rest self.old) at }
         ensures unused { AllStay (reads self.old) (reads self.new)
-            × AllStay (unread self.old) (unread self.new) }
+            × AllStay (unread self.old) (unread self.new)
+            × AllStay (given self.old) (given self.new) }
         ensures fresh { IfOk result (λ reader. (Self.In.calls reader ≡ 0)
             × (Self.In.failures reader ≡ 0)
             × ((past : Self.In.Past) → Self.In.has_given reader past [])) }
+        ensures past { IsOk result → Self.In.Past }
         ensures left { IfOk result (λ reader. IfSome (contents self.old at) (λ file.
             Self.In.remaining reader ≡ Some file)) }
         ensures kept { (sources self.new ≡ sources self.old)
@@ -64,6 +73,8 @@ pub trait Supply {
             (reads self.old) (reads self.new) }
         ensures failed { AddsTo at (sources self.old) (Self.In.failures used)
             (unread self.old) (unread self.new) }
+        ensures given { CountsGiven (λ bytes. (past : Self.In.Past) × Self.In.has_given used past bytes) at
+            (sources self.old) (given self.old) (given self.new) }
         ensures openings { AllStay (refusals self.old) (refusals self.new) }
         ensures back { TakesBack at (sources self.old) (lent self.old) (lent self.new) }
         ensures kept { (sources self.new ≡ sources self.old)

@@ -74,6 +74,10 @@ impl<'a> Supply for Pair<'a> {
 
     ghost rest = { λ _. tt };
 
+    ghost is_there = { λ _ _. Unit {0} };
+
+    ghost given = { λ _ _. None };
+
     fn count(&self) -> usize {
         2
     }

@@ -17,7 +17,10 @@ returns-in_ok-keep-in-Ok-clause-grows g c =
         found.right,
         (read.refusals refl).stays c.args.at,
         (read.unread refl).stays c.args.at,
+        read.there refl,
+        read.given refl,
       );
+      given = read.others;
       refusals = all_others c.args.at _ _ (read.refusals refl);
       unread = all_others c.args.at _ _ (read.unread refl);
       held = λ answers many h. c.in_ok-keep-in-Ok.ensures.kept answers found.bytes many found.kept
@@ -37,8 +40,10 @@ returns-in_ok-pass-in-Err-clause-grows g c =
     let new = c.read_one.new.supply in
     record {
       reading = Err fault;
-      is = failed_reading c.args.limit (g.S.Supply.contents old c.args.at) c.args.at fault
+      is = failed_reading c.args.limit (g.S.Supply.contents old c.args.at)
+          (g.S.Supply.is_there (g.S.Supply.rest old) c.args.at) (g.S.Supply.given new c.args.at) c.args.at fault
           (refusals old) (refusals new) (unread old) (unread new) one fails;
+      given = c.in-Err.ensures.others;
       refusals = refusals_of_one c.args.at fault (refusals old) (refusals new) (unread old) (unread new) one fails;
       unread = unread_of_one c.args.at fault (refusals old) (refusals new) (unread old) (unread new) one fails;
       held = λ answers many h. passed.kept answers many (holds_next _ _ _ _ c.requires.room.0 h);

@@ -34,6 +34,8 @@ loop-at-preserved g c =
     let grown = next.grows in
     let refusals = g.S.Supply.refusals in
     let unread = g.S.Supply.unread in
+    let given = g.S.Supply.given in
+    let is_there = g.S.Supply.is_there in
     let old = c.args.supply.now in
     let mid = c.loop-at.supply in
     let new = c.read_next.new.supply in
@@ -41,11 +43,14 @@ loop-at-preserved g c =
     record {
       readings = before.readings ++ grown.reading ∷ [];
       many = length_push before.readings grown.reading ∙ ap (λ n. n + 1) before.many;
-      right = readings_more c.args.limit at (g.S.Supply.contents old) (refusals old) (refusals mid) (refusals new)
-          (unread old) (unread mid) (unread new) before.readings grown.reading before.many before.right before.refusals
-          before.unread grown.refusals grown.unread
-          (subst (λ contents. IsReading c.args.limit (contents at) at grown.reading (refusals mid at) (refusals new at)
-          (unread mid at) (unread new at)) before.contents grown.is);
+      right = readings_more c.args.limit at (g.S.Supply.contents old) (is_there (g.S.Supply.rest old)) (given mid)
+          (given new) (refusals old) (refusals mid) (refusals new) (unread old) (unread mid) (unread new)
+          before.readings grown.reading before.many before.right before.refusals before.unread grown.given
+          grown.refusals grown.unread
+          (subst (λ rest. IsReading c.args.limit (g.S.Supply.contents old at) (is_there rest at) (given new at) at
+          grown.reading (refusals mid at) (refusals new at) (unread mid at) (unread new at)) before.rest
+          (subst (λ contents. IsReading c.args.limit (contents at) (is_there (g.S.Supply.rest mid) at) (given new at) at
+          grown.reading (refusals mid at) (refusals new at) (unread mid at) (unread new at)) before.contents grown.is));
       room = next.room refl;
       held = holds_with before.readings grown.reading _ _
           (grown.held (answers_of before.readings) (many_answers before.readings _ before.many) before.held);

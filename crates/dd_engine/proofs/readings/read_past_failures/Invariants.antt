@@ -10,8 +10,10 @@ abbrev pub invariant-loop-at : goal.invariant-loop-at
 invariant-loop-at g l = record {
   readings : List Reading;
   many : length readings ≡ l.at;
-  right : AreReadings l.limit (g.S.Supply.contents l.fn.supply) readings (g.S.Supply.refusals l.fn.supply)
-      (g.S.Supply.refusals l.supply) (g.S.Supply.unread l.fn.supply) (g.S.Supply.unread l.supply);
+  right : AreReadings l.limit (g.S.Supply.contents l.fn.supply)
+      (g.S.Supply.is_there (g.S.Supply.rest l.fn.supply)) (g.S.Supply.given l.supply) readings
+      (g.S.Supply.refusals l.fn.supply) (g.S.Supply.refusals l.supply) (g.S.Supply.unread l.fn.supply)
+      (g.S.Supply.unread l.supply);
   room : HasRoom l.read.batch l.read.sources.versions.items;
   held : HoldsOpen (answers_of readings) l.read.sources l.read.batch;
   absent : l.read.absent.items ≡ absent_in readings;

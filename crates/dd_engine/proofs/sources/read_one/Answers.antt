@@ -1,6 +1,6 @@
 -- An answer for what the reader gave is the answer for its source, and no read failed.
-use Rattle.std.proofs.Common.{◌∙◌, refl}
-use Rattle.dd_engine.proofs.Answering.{source_answer, unfailed, unread_stays}
+use Rattle.std.proofs.Common.{◌∙◌, [], refl}
+use Rattle.dd_engine.proofs.Answering.{has_given_all, source_answer, unfailed, unread_stays}
 use Rattle.dd_engine.proofs.Lending.{used}
 use Rattle.dd_engine.proofs.sources.read_one.Goals as goal
 
@@ -43,6 +43,24 @@ returns-in-Err-clause-unread g c _ =
     let none = (unfailed _ _ left _ _ _ h.answered.digested settled).0 ∙ c.in-Ok.ensures.fresh.1 in
     unread_stays _ _ _ _ _ _ failed openable.there c.in-Ok.ensures.kept.0 openable.live.1
     c.in-Ok.ensures.unused.1 c.end.ensures.failed.here c.end.ensures.failed.others none
+
+pub returns-in-Ok-answer-clause-given : goal.returns-in-Ok-answer-clause-given
+returns-in-Ok-answer-clause-given g c _ =
+    let h = c.in-Ok-answer.ensures in
+    let begun = c.in-Ok.ensures in
+    let past = begun.past refl in
+    has_given_all _ _ _ _ _ _ _ _ _ _ begun.left h.known h.answered.digested tt
+    (c.end.ensures.given.here (rw begun.kept.0 (begun.openable refl).there))
+    (past, h.gave.then past [] (begun.fresh.2 past))
+
+pub returns-in-Err-clause-given : goal.returns-in-Err-clause-given
+returns-in-Err-clause-given g c _ =
+    let h = c.in-Err.ensures in
+    let begun = c.in-Ok.ensures in
+    let past = begun.past refl in
+    has_given_all _ _ _ _ _ _ _ _ _ _ begun.left h.known h.answered.digested (c.if-is_of_source.ensures.0 refl)
+    (c.end.ensures.given.here (rw begun.kept.0 (begun.openable refl).there))
+    (past, h.gave.then past [] (begun.fresh.2 past))
 
 pub returns-in-Ok-answer-clause-used : goal.returns-in-Ok-answer-clause-used
 returns-in-Ok-answer-clause-used g c =

@@ -1,5 +1,5 @@
 -- Each answer stands after those before it, and a fault comes of the first source that failed.
-use Rattle.std.proofs.Common.{◌+◌, ◌++◌, ◌∷◌, [], ◌∙◌, refl, ap, arith}
+use Rattle.std.proofs.Common.{◌+◌, ◌++◌, ◌∷◌, [], ◌∙◌, refl, ap, arith, subst}
 use Rattle.std.proofs.lemmas.List.{length_push}
 use Rattle.std.proofs.lemmas.Result.{err_from_is_err_and}
 use borrow.Author.Count.{below_more}
@@ -7,7 +7,7 @@ use Rattle.sha2.specs.Sha256.{sha256}
 use Rattle.dd_keys.specs.Kept.{digested_by}
 use Rattle.dd_engine.proofs.Answering.{all_later, answer_before, answers_more, ends_later, holds_closed}
 use Rattle.dd_engine.proofs.Answering.{holds_first, holds_next, live_before}
-use Rattle.dd_engine.proofs.Lending.{more_reads, still_later}
+use Rattle.dd_engine.proofs.Lending.{given_more, more_reads, still_later}
 use Rattle.dd_engine.proofs.PassedSources.{source_ends}
 use Rattle.dd_engine.proofs.sources.read_sources.Goals as goal
 
@@ -25,6 +25,8 @@ loop-at-init g c =
       lent = record { stays = λ _. refl };
       reads = record { grows = λ _. omega arith };
       later = record { stays = λ _ _. refl };
+      there = λ at below. absurd (omega arith);
+      given = λ at below. absurd (omega arith);
       live = λ at below. absurd (omega arith);
       sources = refl;
       contents = refl;
@@ -49,6 +51,9 @@ loop-at-preserved g c =
       lent = all_later _ _ _ before.lent read.used.ended;
       reads = more_reads c.loop-at.at (c.args.limit + 1) _ _ _ before.reads before.later read.used.few read.used.others;
       later = still_later c.loop-at.at _ _ _ before.later read.used.others;
+      there = below_more _ _ before.there
+          (subst (λ rest. g.S.Supply.is_there rest c.loop-at.at) before.rest (read.there refl));
+      given = given_more c.args.limit c.loop-at.at _ _ _ _ before.given read.others before.contents (read.given refl);
       live = below_more _ _ before.live (live_before _ _ _ _ _ before.refusals before.unread (read.live refl));
       sources = read.kept.0 ∙ before.sources;
       contents = read.kept.1 ∙ before.contents;
@@ -103,3 +108,17 @@ returns-clause-read g c =
       holds_closed before.answers c.loop-at.sources _
           c.loop-at.batch before.held (c.finish.ensures _ before.held.versions) refl refl,
     )
+
+pub returns-clause-there : goal.returns-clause-there
+returns-clause-there g c _ at below =
+    let end = c.loop-at.auto.at-end in
+    let over = c.loop-at-test.false in
+    let all = c.count-at-end.ensures in
+    c.loop-at.invariant.there at (omega (arith, end, over, all, below))
+
+pub returns-clause-given : goal.returns-clause-given
+returns-clause-given g c _ at below =
+    let end = c.loop-at.auto.at-end in
+    let over = c.loop-at-test.false in
+    let all = c.count-at-end.ensures in
+    c.loop-at.invariant.given at (omega (arith, end, over, all, below))

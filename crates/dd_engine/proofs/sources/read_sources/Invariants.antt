@@ -2,7 +2,7 @@ use Rattle.std.proofs.Common.{◌≡◌, ◌<◌, ◌+◌, ℕ, List, length}
 use Rattle.dd_elem.specs.Device.{IsLive}
 use Rattle.dd_engine.specs.Batches.{HasRoom, HoldsOpen}
 use Rattle.dd_engine.specs.Indexing.{Answer}
-use Rattle.dd_engine.specs.Supply.{AllStay, AreAnswers, EachGrows}
+use Rattle.dd_engine.specs.Supply.{AllStay, AreAnswers, EachGrows, HasGivenAll}
 use Rattle.dd_engine.proofs.Lending.{StayFrom}
 use Rattle.dd_engine.proofs.sources.read_sources.Given as goal
 
@@ -19,6 +19,9 @@ invariant-loop-at g l = record {
   lent : AllStay (g.S.Supply.lent l.fn.supply) (g.S.Supply.lent l.supply);
   reads : EachGrows (l.limit + 1) (g.S.Supply.reads l.fn.supply) (g.S.Supply.reads l.supply);
   later : StayFrom l.at (g.S.Supply.reads l.fn.supply) (g.S.Supply.reads l.supply);
+  there : (at : ℕ) → at < l.at → g.S.Supply.is_there (g.S.Supply.rest l.fn.supply) at;
+  given : (at : ℕ) → at < l.at
+      → HasGivenAll l.limit (g.S.Supply.contents l.fn.supply at) (g.S.Supply.given l.supply at);
   live : (at : ℕ) → at < l.at → IsLive (g.S.Supply.refusals l.fn.supply at) (g.S.Supply.unread l.fn.supply at);
   sources : g.S.Supply.sources l.supply ≡ g.S.Supply.sources l.fn.supply;
   contents : g.S.Supply.contents l.supply ≡ g.S.Supply.contents l.fn.supply;
