@@ -22,17 +22,17 @@ decimal_ascii : (n : ℕ) → n < 2 ^ 64 → All IsAscii (decimal n)
 decimal_ascii n room = decimal_by_steps (λ m ds. All IsAscii ds) one_digit
     (λ m ds large h. All-append IsAscii ds ((48 + m % 10) ∷ []) h (one_digit (m % 10) (omega arith))) n room
 
-component_ascii : (a b rank : ℕ) → a < 128 → b < 128 → IsRank rank → All IsAscii (a ∷ b ∷ six_digits rank)
+pub component_ascii : (a b rank : ℕ) → a < 128 → b < 128 → IsRank rank → All IsAscii (a ∷ b ∷ six_digits rank)
 component_ascii a b rank first second is =
     All-cons IsAscii a (b ∷ six_digits rank) first (All-cons IsAscii b (six_digits rank) second
     (All-append IsAscii (replicate (6 - length (decimal rank)) 48) (decimal rank)
     (All-replicate IsAscii (6 - length (decimal rank)) 48 (omega arith)) (decimal_ascii rank (omega (arith, is.1)))))
 
-then_component : (xs ys : List ℕ) → All IsAscii xs → All IsAscii ys → All IsAscii (xs ++ (92 ∷ ys))
+pub then_component : (xs ys : List ℕ) → All IsAscii xs → All IsAscii ys → All IsAscii (xs ++ (92 ∷ ys))
 then_component xs ys first later =
     All-append IsAscii xs (92 ∷ ys) first (All-cons IsAscii 92 ys (omega arith) later)
 
-text_ascii : (ranks : Ranks) → AreRanks ranks → All (λ byte. byte < 128) (text_of ranks)
+pub text_ascii : (ranks : Ranks) → AreRanks ranks → All (λ byte. byte < 128) (text_of ranks)
 unfolding text_of
 text_ascii ranks are =
     let patient = component_ascii 80 84 ranks.patient (omega arith) (omega arith) are.patient in

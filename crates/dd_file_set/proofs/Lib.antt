@@ -1,5 +1,7 @@
 pub mod AllStanding
+mod ChangedFiles
 mod DueFaults
+mod FolderPaths
 mod Fronts
 mod ImagePlaces
 mod ImagesMade

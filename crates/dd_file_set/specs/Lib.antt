@@ -1,3 +1,4 @@
+pub mod Changed
 pub mod Claims
 pub mod Left
 pub mod Made

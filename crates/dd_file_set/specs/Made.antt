@@ -1,6 +1,6 @@
 -- What a command that makes a file-set changes in files that tell what they hold: it makes the file of each image,
 -- record by record, and then the directory.
-use Rattle.std.specs.Prelude.{◌≡◌, ◌⊎◌, ◌<◌, ℕ, List, [], ◌∷◌, All, filter, zip, Option, None, Some, is_some}
+use Rattle.std.specs.Prelude.{◌≡◌, ◌⊎◌, ◌<◌, ◌≤◌, ◌++◌, ℕ, List, [], ◌∷◌, All, filter, zip, Option, None, Some, is_some}
 use Rattle.std.specs.Prelude.{IfSome, IsSomeAnd, codes, length, option_map, slice_get}
 use Rattle.dd_catalogue.specs.Best.{IsRising}
 use Rattle.dd_catalogue.specs.Harmony.{harmonised}
@@ -31,6 +31,15 @@ pub record IsImagePath (folder path : List ℕ) : Type 0 where
   pub file : Ranks
   pub ranks : AreRanks file
   pub place : IsPlace folder file path
+
+-- The folder of the file at this path was made. Its path is what stands before the last component, which has at most
+-- eight characters (PS3.10 section 8.2).
+pub record HasFolderOf (has_folder : List ℕ → Type 0) (path : List ℕ) : Type 0 where
+  pub folder : List ℕ
+  pub last : List ℕ
+  pub is : path ≡ folder ++ 47 ∷ last
+  pub short : length last ≤ 8
+  pub made : has_folder folder
 
 -- a new file is being written there, where none stood
 pub record StartsImage (folder : List ℕ) (file : Ranks) (old new : Option Held) : Type 0 where

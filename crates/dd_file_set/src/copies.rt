@@ -1,14 +1,17 @@
 //! The images of a file-set, in its folder: copies of files, or hard links to them.
-ghost use Rattle.std.specs.Prelude.{◌≡◌, ◌<◌, ℕ, All, IfErr, IfOk, IsOk, length, option_map};
+ghost use Rattle.std.specs.Prelude.{◌≡◌, ◌≢◌, ◌<◌, ℕ, All, IfErr, IfOk, IsOk, List, length, option_map};
 ghost use Rattle.dd_files.specs.Files.{ended};
 ghost use Rattle.dd_files.specs.Keeping.{Adds, IfSaid};
 ghost use Rattle.dd_files.specs.Reasons.{HasCounted, HasFailedReader};
 ghost use Rattle.dd_filing.specs.Ahead.{AreDue, IsDue};
 ghost use Rattle.dd_filing.specs.declared.places.Ahead.TheVariants as known;
 ghost use Rattle.dd_layout.specs.Plans.{records_of};
-ghost use Rattle.dd_file_set.specs.Made.{Copies, CopiesImage, IsImagePath, MakesImage, MakesImages, StartsImage};
+ghost use Rattle.dd_file_set.specs.Changed.{HasUnfit, HasUnfitFirst, HasUnfitPick, IfChanged};
 ghost use Rattle.dd_file_set.specs.Claims.{IsRefusedAs};
-ghost use Rattle.dd_file_set.specs.ReadingAhead.{IsKnown, KnowsNext, ReadsNext};
+ghost use Rattle.dd_file_set.specs.Made.{Copies, CopiesImage, HasFolderOf, IsImagePath, IsPlace, MakesImage};
+ghost use Rattle.dd_file_set.specs.Made.{MakesImages, StartsImage};
+ghost use Rattle.dd_file_set.specs.Standing.{picked_rows};
+ghost use Rattle.dd_file_set.specs.ReadingAhead.{IsKnown, KnowsNext};
 ghost use Rattle.dd_file_set.specs.Reasons.{IsDueTo};
 ghost use Rattle.dd_file_set.specs.Refusal.{IsAmong, IsMemory, IsOfWork};
 
@@ -16,10 +19,11 @@ use crate::file_set::FileSet;
 use crate::images::{Image, make_folder, open, store_batch};
 use crate::links::link_image;
 use crate::origins::Origins;
+use crate::reading_ahead::read_ahead;
 use crate::refusal::{ProgramFault, Refusal, Subject};
 use dd_elem::FileId;
 use dd_files::{Files, Progress, SOURCE_LIMIT, Step, file_path};
-use dd_filing::{AHEAD_LIMIT, Ahead, FileAhead, Filed, FilesAhead, FilingFault, file_image};
+use dd_filing::{Ahead, FileAhead, Filed, FilesAhead, FilingFault, file_image, one_filed};
 use dd_layout::PlanRecord;
 use std::alloc::Global;
 
@@ -51,6 +55,10 @@ pub(crate) fn copy_images<F: Files + Progress, O: Origins>(
         (F.held files.old) (F.held files.new) }
     ensures due { IfErr result (λ refusal.
         IsDueTo F.In.Read (F.refusals files.new) (F.Write.failures files.new) refusal.fault) }
+    ensures changed { IfErr result (λ refusal. IfChanged (HasUnfitPick
+        (O.stands_at set.now.origins.now) (O.may_link set.now.origins.now) (O.gives_links set.now.origins.now)
+        set.now.plan.now.versions (picked_rows set.now.plan.now set.now.picks.now)
+        (F.held files.new)) refusal.fault) }
 {
     let mut left = Left {
         picks: set.picks,
@@ -91,6 +99,9 @@ fn copy_record<F: Files + Progress, O: Origins>(
         IsDueTo F.In.Read (F.refusals files.new) (F.Write.failures files.new) refusal.fault) }
     ensures ahead { IsOk result → AreDue (HasCounted (F.refusals files.new))
         (HasFailedReader F.In.Read) left.new.ahead }
+    ensures changed { IfErr result (λ refusal. IfChanged (HasUnfitFirst
+        (O.stands_at set.now.origins.now) (O.may_link set.now.origins.now) (O.gives_links set.now.origins.now)
+        set.now.plan.now.versions row.now left.old.picks.now (F.held files.old)) refusal.fault) }
 {
     match (row.file, left.picks) {
         (Some(file), [pick, later @ ..]) => {
@@ -110,60 +121,6 @@ fn copy_record<F: Files + Progress, O: Origins>(
             Ok(())
         }
         _ => Ok(()),
-    }
-}
-
-/// Reads the next files ahead of their copies and digests them, once those before are past. Reads none where images get
-/// hard links. What can't be opened or read is refused in its turn, after the images before it.
-fn read_ahead<F: Files, O: Origins>(
-    alloc: Global,
-    origins: &O,
-    picks: &[O::Pick],
-    ahead: &mut FilesAhead,
-    files: &mut F,
-)
-    requires has { All (λ pick. O.number pick < O.count origins.now) picks.now }
-    requires known { KnowsNext (O.stands_at origins.now) picks.now ahead.old (F.held files.old) }
-    requires due { AreDue (HasCounted (F.refusals files.old)) (HasFailedReader F.In.Read) ahead.old }
-    ensures known { KnowsNext (O.stands_at origins.now) picks.now ahead.new (F.held files.new) }
-    ensures kept { F.held files.new ≡ F.held files.old }
-    ensures due { AreDue (HasCounted (F.refusals files.new)) (HasFailedReader F.In.Read) ahead.new }
-    ensures counts { HasCounted (F.refusals files.old) → HasCounted (F.refusals files.new) }
-{
-    if origins.gives_links() || !ahead.is_past() {
-        return;
-    }
-    let lanes = files.lanes();
-    ahead.release(lanes);
-    for pick in picks {
-        if ahead.is_enough(lanes) {
-            break;
-        }
-        read_next(alloc, origins, *pick, ahead, files);
-    }
-    ahead.digest(lanes);
-}
-
-fn read_next<F: Files, O: Origins>(
-    alloc: Global,
-    origins: &O,
-    pick: O::Pick,
-    ahead: &mut FilesAhead,
-    files: &mut F,
-)
-    requires has { O.number pick < O.count origins.now }
-    requires room { length ahead.old.files < 8 }
-    requires due { AreDue (HasCounted (F.refusals files.old)) (HasFailedReader F.In.Read) ahead.old }
-    ensures read { ReadsNext (O.stands_at origins.now pick) (F.held files.new) ahead.old ahead.new }
-    ensures kept { F.held files.new ≡ F.held files.old }
-    ensures due { AreDue (HasCounted (F.refusals files.new)) (HasFailedReader F.In.Read) ahead.new }
-    ensures counts { HasCounted (F.refusals files.old) → HasCounted (F.refusals files.new) }
-{
-    match open(alloc, origins, pick, files) {
-        Ok(reader) if files.said_size(&reader) > AHEAD_LIMIT => ahead.skip(),
-        Ok(mut reader) => ahead.read(alloc, &mut reader),
-        Err(refusal) if refusal.fault == ProgramFault::Absent => ahead.refuse(),
-        Err(_) => ahead.skip(),
     }
 }
 
@@ -189,6 +146,9 @@ fn make_image<F: Files + Progress, O: Origins>(
         IsDueTo F.In.Read (F.refusals files.new) (F.Write.failures files.new) refusal.fault) }
     ensures counts { IsOk result → HasCounted (F.refusals files.old)
         → HasCounted (F.refusals files.new) }
+    ensures changed { IfErr result (λ refusal. IfChanged (HasUnfit
+        (O.stands_at image.now.origins.now image.now.pick) (O.may_link image.now.origins.now image.now.pick)
+        (O.gives_links image.now.origins.now) image.now.planned.now (F.held files.old)) refusal.fault) }
 {
     if link_image(alloc, image, files)? {
         return Ok(());
@@ -217,6 +177,9 @@ fn copy_image<F: Files + Progress, O: Origins>(
         IsDueTo F.In.Read (F.refusals files.new) (F.Write.failures files.new) refusal.fault) }
     ensures counts { IsOk result → HasCounted (F.refusals files.old)
         → HasCounted (F.refusals files.new) }
+    ensures changed { IfErr result (λ refusal. IfChanged (HasUnfit
+        (O.stands_at image.now.origins.now image.now.pick) (O.may_link image.now.origins.now image.now.pick)
+        (O.gives_links image.now.origins.now) image.now.planned.now (F.held files.old)) refusal.fault) }
 {
     match ahead {
         Ahead::File(file) => copy_ahead(alloc, image, &file, files),
@@ -250,8 +213,12 @@ fn copy_ahead<F: Files + Progress, O: Origins>(
         IsDueTo F.In.Read (F.refusals files.new) (F.Write.failures files.new) refusal.fault) }
     ensures counts { IsOk result → HasCounted (F.refusals files.old)
         → HasCounted (F.refusals files.new) }
+    ensures changed { IfErr result (λ refusal. IfChanged (HasUnfit
+        (O.stands_at image.now.origins.now image.now.pick) (O.may_link image.now.origins.now image.now.pick)
+        (O.gives_links image.now.origins.now) image.now.planned.now (F.held files.old)) refusal.fault) }
 {
     start_copy(alloc, image.folder, image.file, files)?;
+    one_filed();
     match ahead.copy_to(files, image.planned) {
         Ok(filed) => end_copy(alloc, image, filed, files),
         Err(fault) => Err(refusal_of(fault, image.file, image.origins.subject(image.pick))),
@@ -276,9 +243,13 @@ fn copy_streamed<F: Files + Progress, O: Origins>(
         IsDueTo F.In.Read (F.refusals files.new) (F.Write.failures files.new) refusal.fault) }
     ensures counts { IsOk result → HasCounted (F.refusals files.old)
         → HasCounted (F.refusals files.new) }
+    ensures changed { IfErr result (λ refusal. IfChanged (HasUnfit
+        (O.stands_at image.now.origins.now image.now.pick) (O.may_link image.now.origins.now image.now.pick)
+        (O.gives_links image.now.origins.now) image.now.planned.now (F.held files.old)) refusal.fault) }
 {
     let mut reader = open(alloc, image.origins, image.pick, files)?;
     start_copy(alloc, image.folder, image.file, files)?;
+    one_filed();
     match file_image(alloc, &mut reader, files, image.planned, SOURCE_LIMIT) {
         Ok(filed) => end_copy(alloc, image, filed, files),
         Err(fault) => Err(refusal_of(fault, image.file, image.origins.subject(image.pick))),
@@ -294,12 +265,16 @@ fn start_copy<F: Files>(
     ensures refusal { (paths : ℕ) → IfErr result (IsOfWork paths) }
     ensures started { IsOk result
         → StartsImage folder.now file (F.held files.old) (F.held files.new) }
+    // The name is refused only once the folder of the image was made.
+    ensures folder { IfErr result (λ refusal. refusal.fault ≡ ProgramFault.Create → (path : List ℕ)
+        × IsPlace folder.now file path × HasFolderOf (F.has_folder files.new) path) }
     ensures adds { IfSaid (Adds (IsImagePath folder.now))
         (F.held files.old) (F.held files.new) }
     ensures due { IfErr result (λ refusal.
         IsDueTo F.In.Read (F.refusals files.new) (F.Write.failures files.new) refusal.fault) }
     ensures counts { IsOk result → HasCounted (F.refusals files.old)
         → HasCounted (F.refusals files.new) }
+    ensures unchanged { IfErr result (λ refusal. IfChanged ⊥ refusal.fault) }
 {
     make_folder(alloc, folder, file, files)?;
     let path = file_path(alloc, folder, &file.text())?;
@@ -327,6 +302,7 @@ fn end_copy<F: Files + Progress, O: Origins>(
         IsDueTo F.In.Read (F.refusals files.new) (F.Write.failures files.new) refusal.fault) }
     ensures counts { IsOk result → HasCounted (F.refusals files.old)
         → HasCounted (F.refusals files.new) }
+    ensures changed { IfErr result (λ refusal. IfChanged (filed ≢ Filed.AsPlanned) refusal.fault) }
 {
     if files.finish().is_err() {
         return Err(Refusal::of(Subject::Image(image.file), ProgramFault::Unsent));
@@ -345,6 +321,7 @@ fn accept<O: Origins>(alloc: Global, image: &Image<'_, O>, filed: Filed) -> Resu
     ensures refused { IfErr result (IsRefusedAs filed
         (O.is_subject image.now.origins.now image.now.pick)
         (O.is_claimant image.now.origins.now image.now.pick image.now.planned.now)) }
+    ensures changed { IfErr result (λ _. filed ≢ Filed.AsPlanned) }
 {
     let Image {
         planned,
@@ -370,6 +347,7 @@ fn refusal_of(fault: FilingFault, file: FileId, origin: Subject) -> Refusal
     ensures unsent { fault ≡ FilingFault.Unsent
         → result ≡ record { subject = Subject.Image file; fault = ProgramFault.Unsent } }
     ensures work { (paths : ℕ) → IsAmong paths origin → IsOfWork paths result }
+    ensures why { IfChanged (fault ≡ FilingFault.Changed) result.fault }
 {
     match fault {
         FilingFault::Memory => Refusal::memory(),

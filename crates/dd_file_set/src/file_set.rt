@@ -4,11 +4,13 @@ ghost use Rattle.dd_dir.specs.Directories.{directory_of};
 ghost use Rattle.dd_elem.specs.Device.{counted, HasFailed};
 ghost use Rattle.dd_files.specs.Files.{ended, grown, published, started, stored};
 ghost use Rattle.dd_files.specs.Keeping.{Adds, IfSaid, IsFree};
+ghost use Rattle.dd_file_set.specs.Changed.{HasUnfitPick, IfChanged};
 ghost use Rattle.dd_file_set.specs.Left.{IsPartWritten, MakesDirectoryLast};
 ghost use Rattle.dd_file_set.specs.Made.{MakesFileSet, RealisesPlan, SaysPlan};
 ghost use Rattle.dd_file_set.specs.Reasons.{IsDueTo, StandsDirectory};
 ghost use Rattle.dd_files.specs.Reasons.{HasCounted};
 ghost use Rattle.dd_file_set.specs.Refusal.{IsBadLine, IsOfWork};
+ghost use Rattle.dd_file_set.specs.Standing.{picked_rows};
 
 use crate::copies::copy_images;
 use crate::origins::Origins;
@@ -68,6 +70,12 @@ pub fn write_file_set<F: Files + Progress, O: Origins>(
         (F.held files.old) (F.held files.new) }
     ensures due { IfErr result (λ refusal.
         IsDueTo F.In.Read (F.refusals files.new) (F.Write.failures files.new) refusal.fault) }
+
+    // Where a file is said to have changed, the file of a pick has bytes of which its image can't be made.
+    ensures changed { IfErr result (λ refusal. IfChanged (HasUnfitPick
+        (O.stands_at set.now.origins.now) (O.may_link set.now.origins.now) (O.gives_links set.now.origins.now)
+        set.now.plan.now.versions (picked_rows set.now.plan.now set.now.picks.now)
+        (F.held files.new)) refusal.fault) }
 {
     copy_images(alloc, set, files)?;
     if files.folder(set.folder).is_err() {
@@ -116,6 +124,7 @@ fn make_directory<F: Files>(path: &str, plan: &Plan, files: &mut F) -> Result<()
         (F.held files.old) (F.held files.new) }
     ensures due { IfErr result
         (IsDueTo F.In.Read (F.refusals files.new) (F.Write.failures files.new)) }
+    ensures unchanged { IfErr result (IfChanged ⊥) }
 {
     start_directory(path, files)?;
     send_directory(plan, files)?;

@@ -11,7 +11,7 @@ const COMPONENT: usize = 8;
 const PATH_LENGTH: usize = 4 * COMPONENT + 3;
 
 /// The part of it before the last component and its separator.
-const FOLDER_LENGTH: usize = 3 * COMPONENT + 2;
+pub(crate) const FOLDER_LENGTH: usize = 3 * COMPONENT + 2;
 
 /// The text of the path of an image in its file-set, or of its folder.
 pub type ImagePathText = InlineText<PATH_LENGTH>;

@@ -1,17 +1,19 @@
 //! An image of a file-set: its file, its folder, and how it is stored.
-ghost use Rattle.std.specs.Prelude.{◌≡◌, ◌<◌, ℕ, IfErr, IfOk, IsErr, IsOk};
+ghost use Rattle.std.specs.Prelude.{◌≡◌, ◌≢◌, ◌<◌, ℕ, List, IfErr, IfOk, IsErr, IsOk};
 ghost use Rattle.dd_elem.specs.Device.{counted};
 ghost use Rattle.dd_files.specs.Files.{IsUnread};
 ghost use Rattle.dd_files.specs.Reasons.{HasCounted};
+ghost use Rattle.dd_file_set.specs.Changed.{IfChanged};
+ghost use Rattle.dd_file_set.specs.Made.{HasFolderOf, IsPlace};
 ghost use Rattle.dd_file_set.specs.ReadingAhead.{OpensOne};
 ghost use Rattle.dd_file_set.specs.Reasons.{IsDueTo};
 ghost use Rattle.dd_file_set.specs.Refusal.{IsOfWork};
 
-use crate::image_path::{ImageFolder, ImagePathText};
+use crate::image_path::FOLDER_LENGTH;
 use crate::origins::{Lookup, Origins};
 use crate::refusal::{ProgramFault, Refusal, Subject};
 use dd_elem::FileId;
-use dd_files::{Files, NotThere, path_in};
+use dd_files::{Files, NotThere, file_path};
 use dd_version::Version;
 use std::alloc::Global;
 
@@ -42,6 +44,7 @@ pub(crate) fn open<F: Files, O: Origins>(
     ensures due { IfErr result (λ refusal.
         IsDueTo F.In.Read (F.refusals files.new) (F.Write.failures files.new) refusal.fault) }
     ensures counts { HasCounted (F.refusals files.old) → HasCounted (F.refusals files.new) }
+    ensures unchanged { IfErr result (λ refusal. IfChanged ⊥ refusal.fault) }
 {
     let path = origins.path(alloc, pick)?;
     match open_at(origins.lookup(pick), path.as_str(), files) {
@@ -70,14 +73,18 @@ pub(crate) fn make_folder<F: Files>(
     files: &mut F,
 ) -> Result<(), Refusal>
     ensures refusal { (paths : ℕ) → IfErr result (IsOfWork paths) }
+    ensures fault { IfErr result (λ refusal. refusal.fault ≢ ProgramFault.Create) }
+    ensures made { IsOk result → (path : List ℕ) → IsPlace folder.now file path
+        → HasFolderOf (F.has_folder files.new) path }
     ensures kept { F.held files.new ≡ F.held files.old }
     ensures due { IfErr result (λ refusal.
         IsDueTo F.In.Read (F.refusals files.new) (F.Write.failures files.new) refusal.fault) }
     ensures counts { IsOk result → HasCounted (F.refusals files.old)
         → HasCounted (F.refusals files.new) }
+    ensures unchanged { IfErr result (λ refusal. IfChanged ⊥ refusal.fault) }
 {
-    let below = ImagePathText::of(&ImageFolder(file));
-    let path = path_in(alloc, folder, below.as_str())?;
+    let text = file.text();
+    let path = file_path(alloc, folder, &text[..FOLDER_LENGTH])?;
     if files.folder_in(folder, path.as_str()).is_err() {
         return Err(Refusal::of(Subject::ImageFolder(file), ProgramFault::Folder));
     }

@@ -9,6 +9,7 @@ mod image_path;
 mod images;
 mod links;
 mod origins;
+mod reading_ahead;
 mod refusal;
 
 pub use file_set::{FileSet, refuse_taken, write_file_set};

@@ -1,9 +1,11 @@
 //! Hard links to files, as images of a file-set.
-ghost use Rattle.std.specs.Prelude.{◌≡◌, ◌<◌, ℕ, IfErr, IfOk, IfSome, IsErr, IsOk, IsSomeAnd, false, option_map, true};
+ghost use Rattle.std.specs.Prelude.{◌≡◌, ◌<◌, ℕ, Err, IfErr, IfOk, IfSome, IsErr, IsOk, IsSomeAnd, false, option_map};
+ghost use Rattle.std.specs.Prelude.{true};
 ghost use Rattle.dd_files.specs.Files.{linked};
 ghost use Rattle.dd_files.specs.Keeping.{Adds, IfSaid, IsFree};
 ghost use Rattle.dd_files.specs.Reasons.{HasCounted};
-ghost use Rattle.dd_file_set.specs.Made.{IsAsStored, IsImagePath, LinksImage};
+ghost use Rattle.dd_file_set.specs.Changed.{HasUnfit, IfChanged};
+ghost use Rattle.dd_file_set.specs.Made.{HasFolderOf, IsAsStored, IsImagePath, LinksImage};
 ghost use Rattle.dd_file_set.specs.Reasons.{IsDueTo, IsLinkDueTo};
 ghost use Rattle.dd_file_set.specs.Refusal.{IsAmong, IsOfWork};
 
@@ -36,6 +38,9 @@ pub(crate) fn link_image<F: Files + Progress, O: Origins>(
         IsDueTo F.In.Read (F.refusals files.new) (F.Write.failures files.new) refusal.fault) }
     ensures counts { IsOk result → HasCounted (F.refusals files.old)
         → HasCounted (F.refusals files.new) }
+    ensures changed { IfErr result (λ refusal. IfChanged (HasUnfit
+        (O.stands_at image.now.origins.now image.now.pick) (O.may_link image.now.origins.now image.now.pick)
+        (O.gives_links image.now.origins.now) image.now.planned.now (F.held files.old)) refusal.fault) }
 {
     let Image {
         folder,
@@ -76,6 +81,7 @@ fn open_unstored<F: Files, O: Origins>(
         IsDueTo F.In.Read (F.refusals files.new) (F.Write.failures files.new) refusal.fault) }
     ensures counts { IsOk result → HasCounted (F.refusals files.old)
         → HasCounted (F.refusals files.new) }
+    ensures unchanged { IfErr result (λ refusal. IfChanged ⊥ refusal.fault) }
 {
     match lookup {
         Lookup::Stored(_) => {}
@@ -93,6 +99,7 @@ fn give_link<F: Files>(
     path: &str,
     files: &mut F,
 ) -> Result<(), LinkFault>
+    requires { HasFolderOf (F.has_folder files.old) path.now }
     ensures there { IsOk result → IfSome (F.held files.old)
         (λ held. IsSomeAnd (held.bytes_at from.now) (IsAsStored lookup.entry)) }
     ensures free { IsOk result → IsFree path.now (F.held files.old) }
@@ -101,6 +108,8 @@ fn give_link<F: Files>(
     ensures kept { IsErr result → F.held files.new ≡ F.held files.old }
     ensures due { IfErr result (IsLinkDueTo (F.refusals files.new)) }
     ensures counts { HasCounted (F.refusals files.old) → HasCounted (F.refusals files.new) }
+    ensures changed { result ≡ Err LinkFault.Changed → IfSome (F.held files.old)
+        (λ held. IsSomeAnd (held.bytes_at from.now) (λ bytes. ¬ IsAsStored lookup.entry bytes)) }
 {
     match lookup {
         Lookup::Stored(size) => files.link_stored(from, path, size),
@@ -117,6 +126,7 @@ fn store_link<F: Files>(lookup: Lookup<'_>, files: &mut F) -> Result<(), Refusal
         IsDueTo F.In.Read (F.refusals files.new) (F.Write.failures files.new) refusal.fault) }
     ensures counts { IsOk result → HasCounted (F.refusals files.old)
         → HasCounted (F.refusals files.new) }
+    ensures unchanged { IfErr result (λ refusal. IfChanged ⊥ refusal.fault) }
 {
     match lookup {
         Lookup::Stored(_) => Ok(()),
@@ -130,6 +140,7 @@ fn refusal_of(fault: LinkFault, file: FileId, origin: Subject) -> Refusal
     ensures absent { fault ≡ LinkFault.Absent → result.fault ≡ ProgramFault.Absent }
     ensures changed { fault ≡ LinkFault.Changed → result.fault ≡ ProgramFault.Changed }
     ensures taken { fault ≡ LinkFault.Taken → result.fault ≡ ProgramFault.Create }
+    ensures why { IfChanged (fault ≡ LinkFault.Changed) result.fault }
 {
     match fault {
         LinkFault::Changed => Refusal::of(origin, ProgramFault::Changed),

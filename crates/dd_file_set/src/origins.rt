@@ -58,8 +58,9 @@ pub trait Origins {
 
     /// Says how the file is looked up, and what a hard link to it needs.
     fn lookup(&self, pick: Self::Pick) -> Lookup<'_>
-        ensures { (bytes : List ℕ) → gives_links self.now → IsAsStored result bytes
-            → may_link self.now pick bytes };
+        ensures may { (bytes : List ℕ) → gives_links self.now → IsAsStored result bytes
+            → may_link self.now pick bytes }
+        ensures stored { (bytes : List ℕ) → may_link self.now pick bytes → IsAsStored result bytes };
 
     /// Says whether images may get hard links in place of copies.
     fn gives_links(&self) -> bool

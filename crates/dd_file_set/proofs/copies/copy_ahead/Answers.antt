@@ -1,8 +1,11 @@
 -- All bytes that were read ahead went to a new file, which then ended.
-use Rattle.std.proofs.Common.{subst}
+use Rattle.std.proofs.Common.{◌≡◌, ◌≢◌, subst}
 use Rattle.dd_files.proofs.KeptFiles.{held_published, said_grown, said_then}
 use Rattle.dd_filing.specs.Filing.{IsFileAs}
 use Rattle.dd_filing.specs.declared.agreeing.Filed.{Filed}
+use Rattle.dd_filing.specs.declared.agreeing.Filed.TheVariants.{AsPlanned}
+use Rattle.dd_filing.specs.declared.copying.FilingFault.TheVariants as copy
+use Rattle.dd_file_set.proofs.ChangedFiles.{changed_by, never_ahead, other_file, refused_by}
 use Rattle.dd_file_set.proofs.DueFaults.{ahead_due, due_copy}
 use Rattle.dd_file_set.proofs.Fronts.{ahead_front}
 use Rattle.dd_file_set.proofs.ImagePlaces.{image_path}
@@ -56,3 +59,21 @@ returns-in-Err-clause-due g c =
     due_copy g.F.In.Read _ _ c.in-Err.fault _ _ c.refusal_of.result
     (ahead_due g.F.In.Read g.F.Write _ _ c.args.image.now.planned.now c.in-Err.fault c.args.ahead.now c.in-Err.ensures
     c.requires.due) is.memory is.unread is.changed is.unsent
+
+pub returns-in-Ok-clause-changed : goal.returns-in-Ok-clause-changed
+returns-in-Ok-clause-changed g c =
+    let image = c.args.image.now in
+    let origins = image.origins.now in
+    let bytes = c.args.ahead.now.bytes in
+    let sent = c.in-Ok.ensures in
+    refused_by c.end_copy.result (c.in-Ok.filed ≢ AsPlanned) _
+    (other_file (g.O.Origins.stands_at origins image.pick) (g.O.Origins.may_link origins image.pick)
+    (g.O.Origins.gives_links origins) image.planned.now (g.F.Files.held c.args.files.now) bytes c.in-Ok.filed
+    (c.requires.known sent.0) (λ is. c.one_filed.ensures image.planned.now bytes c.in-Ok.filed AsPlanned sent.1.0 is))
+    c.end_copy.ensures.changed
+
+pub returns-in-Err-clause-changed : goal.returns-in-Err-clause-changed
+returns-in-Err-clause-changed g c =
+    changed_by (c.in-Err.fault ≡ copy.Changed) _ c.refusal_of.result.fault
+    (λ is. absurd (never_ahead g.F.Write _ _ c.args.image.now.planned.now c.in-Err.fault c.args.ahead.now is
+    c.in-Err.ensures)) c.refusal_of.ensures.why

@@ -1,7 +1,9 @@
 -- The image of the record was made, of the first pick.
-use Rattle.std.proofs.Common.{◌<◌, ◌-◌, ℕ, List, All, drop, length, refl, take}
+use Rattle.std.proofs.Common.{◌≡◌, ◌<◌, ◌-◌, ℕ, List, All, Err, ap, drop, is_some, length, refl, rules, take}
 use Rattle.std.proofs.lemmas.List.Elements.{All-drop, All-take}
 use Rattle.std.proofs.lemmas.Option.{slice_get_read}
+use Rattle.dd_file_set.proofs.ChangedFiles.{changed_by, unfit_first}
+use Rattle.dd_file_set.specs.Changed.{HasUnfit}
 use Rattle.dd_file_set.proofs.ImagesMade.{copies_one}
 use Rattle.dd_file_set.proofs.KnownAhead.{next_known, passed_known}
 use Rattle.dd_file_set.proofs.copies.copy_record.Goals as goal
@@ -43,3 +45,24 @@ returns-in_ok-make_image-in-Some-len1-up-clause-known g c = λ done.
     passed_known (g.O.Origins.stands_at c.args.set.now.origins.now) c.args.left.now.picks.now _ _ _ _ _ _ _ _ _
     c.in-Some-len1-up.len_at_least c.pass.ensures (c.in_ok-make_image-in-Some-len1-up.ensures.made cc)
     c.read_ahead.ensures.known
+
+pub returns-in_err-make_image-in-Some-len1-up-clause-changed :
+    goal.returns-in_err-make_image-in-Some-len1-up-clause-changed
+returns-in_err-make_image-in-Some-len1-up-clause-changed g c =
+    let set = c.args.set.now in
+    let origins = set.origins.now in
+    let pick = c.pick-item.result in
+    let planned = c.index-versions-row.result in
+    let held = g.F.Files.held c.args.files.now in
+    let refusal = c.in_err-make_image-in-Some-len1-up.field-0.0 in
+    let is : c.from_residual.result ≡ Err refusal = search rules in
+    rw is (changed_by
+    (HasUnfit (g.O.Origins.stands_at origins pick) (g.O.Origins.may_link origins pick) (g.O.Origins.gives_links origins)
+    planned held) _ refusal.fault
+    (λ has. unfit_first (g.O.Origins.stands_at origins) (g.O.Origins.may_link origins)
+    (g.O.Origins.gives_links origins) set.plan.now.versions c.args.row.now c.args.left.now.picks.now pick planned held
+    c.in-Some-len1-up.len_at_least (ap is_some c.in-Some-len1-up.is-0)
+    (slice_get_read set.plan.now.versions (length set.plan.now.versions) c.args.row.now.of planned refl
+    c.requires.within (rw c.versions-versions.ensures.all at c.index-versions-row.is))
+    (rw (← c.pick-item.is) has))
+    (rw c.read_ahead.ensures.kept at c.in_err-make_image-in-Some-len1-up.ensures.changed))

@@ -1,8 +1,11 @@
 -- All that the reader gave went to a new file, which then ended.
-use Rattle.std.proofs.Common.{subst}
+use Rattle.std.proofs.Common.{◌≡◌, ◌≢◌, arith, subst}
 use Rattle.dd_files.proofs.KeptFiles.{held_published, said_grown, said_then}
 use Rattle.dd_filing.specs.Filing.{IsFileAs}
 use Rattle.dd_filing.specs.declared.agreeing.Filed.{Filed}
+use Rattle.dd_filing.specs.declared.agreeing.Filed.TheVariants.{AsPlanned}
+use Rattle.dd_filing.specs.declared.copying.FilingFault.TheVariants as copy
+use Rattle.dd_file_set.proofs.ChangedFiles.{changed_by, long_file, other_file, refused_by, too_long}
 use Rattle.dd_file_set.proofs.DueFaults.{due_copy, still_counted, streamed_due}
 use Rattle.dd_file_set.proofs.Fronts.{copy_front}
 use Rattle.dd_file_set.proofs.KnownAhead.{one_given}
@@ -68,3 +71,31 @@ returns-clause-due g c =
     due_copy g.F.In.Read _ _ c.in-Err.fault _ _ c.refusal_of.result
     (streamed_due g.F.In.Read g.F.Write _ _ c.in-Err.fault _ h.given _ _ c.file_image.new.reader h.answered)
     is.memory is.unread is.changed is.unsent
+
+pub returns-in-Ok-clause-changed : goal.returns-in-Ok-clause-changed
+returns-in-Ok-clause-changed g c =
+    let image = c.args.image.now in
+    let origins = image.origins.now in
+    let held = g.F.Files.held c.args.files.now in
+    let h = c.in-Ok.ensures in
+    let opened = c.in_ok-reader.ensures.opened in
+    refused_by c.end_copy.result (c.in-Ok.filed ≢ AsPlanned) _
+    (other_file (g.O.Origins.stands_at origins image.pick) (g.O.Origins.may_link origins image.pick)
+    (g.O.Origins.gives_links origins) image.planned.now held h.given c.in-Ok.filed
+    (one_given (g.O.Origins.stands_at origins image.pick) opened.from held _ _ h.given opened.picked opened.unread.left
+    h.known h.answered.1.0.1)
+    (λ is. c.one_filed.ensures image.planned.now h.given c.in-Ok.filed AsPlanned h.answered.0 is))
+    c.end_copy.ensures.changed
+
+pub returns-clause-changed : goal.returns-clause-changed
+returns-clause-changed g c =
+    let image = c.args.image.now in
+    let origins = image.origins.now in
+    let h = c.in-Err.ensures in
+    let opened = c.in_ok-reader.ensures.opened in
+    changed_by (c.in-Err.fault ≡ copy.Changed) _ c.refusal_of.result.fault
+    (λ is. long_file (g.O.Origins.stands_at origins image.pick) (g.O.Origins.may_link origins image.pick)
+    (g.O.Origins.gives_links origins) image.planned.now opened.from (g.F.Files.held c.args.files.now) _ _ h.given
+    opened.picked opened.unread.left h.known
+    (omega (arith, too_long g.F.Write _ _ c.in-Err.fault _ h.given _ _ _ is h.answered)))
+    c.refusal_of.ensures.why

@@ -11,3 +11,6 @@ returns-clause-made g c = λ done.
 pub returns-clause-adds : goal.returns-clause-adds
 returns-clause-adds g c =
     said_then (IsImagePath c.args.image.now.folder.now) _ _ _ c.link_image.ensures.adds c.copy_image.ensures.adds
+
+pub returns-clause-changed : goal.returns-clause-changed
+returns-clause-changed g c = rw (c.in_ok-link_image.ensures.kept c.if-branch.false) at c.copy_image.ensures.changed

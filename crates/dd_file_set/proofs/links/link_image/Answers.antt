@@ -1,12 +1,18 @@
 -- The file of the pick has a hard link, and nothing else changed what the files hold.
-use Rattle.std.proofs.Common.{◌∙◌}
+use Rattle.std.proofs.Common.{◌≡◌, ◌∙◌, Err, ap, refl}
 use Rattle.dd_files.proofs.KeptFiles.{said_is, said_linked}
+use Rattle.dd_files.specs.declared.files.LinkFault.TheVariants as link
+use Rattle.dd_file_set.proofs.ChangedFiles.{changed_by, unlinked_file}
 use Rattle.dd_file_set.proofs.Unlinked.{bytes_by}
 use Rattle.dd_file_set.specs.Made.{IsAsStored, IsImagePath}
 use Rattle.dd_file_set.proofs.links.link_image.Goals as goal
 
 pub returns-in-Err-clause-refusal : goal.returns-in-Err-clause-refusal
 returns-in-Err-clause-refusal g c = c.refusal_of.ensures.work _ (c.subject.ensures.among c.requires)
+
+pub give_link-requires : goal.give_link-requires
+give_link-requires g c = c.in_ok-make_folder.ensures.made refl c.as_str-2.result.now
+    (rw (c.as_str-2.ensures.value, ← c.text.ensures.exact) c.in_ok-path.ensures)
 
 pub returns-clause-linked : goal.returns-clause-linked
 returns-clause-linked g c = λ done. record {
@@ -17,7 +23,7 @@ returns-clause-linked g c = λ done. record {
   picked = rw c.as_str.ensures.value (c.in_ok-from.ensures c.requires);
   there = bytes_by (IsAsStored c.lookup-lookup.result)
       (g.O.Origins.may_link c.args.image.now.origins.now c.args.image.now.pick) c.as_str.result.now
-      (g.F.Files.held c.args.files.now) (λ bytes is. c.lookup-lookup.ensures bytes (c.gives_links.ensures cc) is)
+      (g.F.Files.held c.args.files.now) (λ bytes is. c.lookup-lookup.ensures.may bytes (c.gives_links.ensures cc) is)
       (rw (c.in_ok-make_folder.ensures.kept, c.in_ok-open_unstored.ensures.kept) at c.in-Ok.ensures.there cc);
   free = rw (c.in_ok-make_folder.ensures.kept, c.in_ok-open_unstored.ensures.kept) at c.in-Ok.ensures.free cc;
   made = c.in_ok-store_link.ensures.kept ∙ c.advance.ensures.kept
@@ -71,3 +77,15 @@ returns-clause-adds g c =
     (rw (c.in_ok-make_folder.ensures.kept, c.in_ok-open_unstored.ensures.kept) at c.in-Ok.ensures.free cc)
     (c.store_link.ensures.kept ∙ c.advance.ensures.kept
     ∙ (rw (c.in_ok-make_folder.ensures.kept, c.in_ok-open_unstored.ensures.kept) at c.in-Ok.ensures.linked cc))
+
+pub returns-in-Err-clause-changed : goal.returns-in-Err-clause-changed
+returns-in-Err-clause-changed g c =
+    let origins = c.args.image.now.origins.now in
+    let pick = c.args.image.now.pick in
+    changed_by (c.in-Err.fault ≡ link.Changed) _ c.refusal_of.result.fault
+    (λ is. unlinked_file (g.O.Origins.stands_at origins pick) (g.O.Origins.may_link origins pick)
+    (g.O.Origins.gives_links origins) c.args.image.now.planned.now c.as_str.result.now (g.F.Files.held c.args.files.now)
+    (λ bytes. ¬ IsAsStored c.lookup-lookup.result bytes) (rw c.as_str.ensures.value (c.in_ok-from.ensures c.requires))
+    (c.gives_links.ensures cc) (λ bytes not may. not (c.lookup-lookup.ensures.stored bytes may))
+    (rw (c.in_ok-make_folder.ensures.kept, c.in_ok-open_unstored.ensures.kept) at c.in-Err.ensures.changed (ap Err is)))
+    c.refusal_of.ensures.why

@@ -3,7 +3,7 @@ use Rattle.std.proofs.Common.{◌≡◌, length}
 use Rattle.dd_files.specs.Reasons.{HasCounted, HasFailedReader}
 use Rattle.dd_filing.specs.Ahead.{AreDue}
 use Rattle.dd_file_set.specs.ReadingAhead.{KnowsNext}
-use Rattle.dd_file_set.proofs.copies.read_ahead.Given as goal
+use Rattle.dd_file_set.proofs.reading_ahead.read_ahead.Given as goal
 
 abbrev pub invariant-loop-pick : goal.invariant-loop-pick
 invariant-loop-pick g l = record {
