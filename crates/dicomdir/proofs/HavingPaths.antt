@@ -1,14 +1,14 @@
 -- The paths of one source more, and of the names of a list.
 use Rattle.std.proofs.Common.{◌≡◌, ◌≢◌, ◌∙◌, ◌++◌, ◌+◌, ◌-◌, ◌<◌, ◌⊎◌, ℕ, zero, suc, Bool, List, [], ◌∷◌, ap, ap₂, append_assoc}
 use Rattle.std.proofs.Common.{append-nil, arith, false, get_or, inl, inr, length, map, refl, string_bytes, subst, sym}
-use Rattle.std.proofs.Common.{Global, None, Option, String}
+use Rattle.std.proofs.Common.{All, Global, None, Option, String}
 use Rattle.dd_files.specs.Files.{Held}
 use Rattle.std.specs.List.{Contains}
 use Rattle.std.specs.Str.{IsUtf8}
 use Rattle.std.proofs.lemmas.List.{get_or_append_left, get_or_push, length-append, length-map, map_push}
 use Rattle.std.proofs.lemmas.List.Elements.{All-push, All-weaker, Contains-append_left, Contains-push}
 use Rattle.dicomdir.proofs.NameParts.{NamesRead, all_good, all_read, fails_next, name_read, none_read}
-use Rattle.dicomdir.specs.ListedNames.{AreNames, FailsAt, FindsSources, HavePaths, IsListed, parts}
+use Rattle.dicomdir.specs.ListedNames.{AreNames, FailsAt, FindsSources, HavePaths, IsListed, parts, shown_name}
 
 -- ---- one source more
 
@@ -41,6 +41,14 @@ module _ (sources paths : List (List ℕ)) (bad : List ℕ) (name path : List �
       get_or_append_left paths (path ∷ []) [] at (omega (arith, within, have.count))
       ∙ have.named at within other ∙ sym (get_or_append_left sources (name ∷ []) [] at within)
 
+  -- so is what stands there for a name that is no path
+  still_shown : All (λ at. get_or (paths ++ path ∷ []) at [] ≡ shown_name (get_or (sources ++ name ∷ []) at [])) bad
+  still_shown = λ k d within.
+      let at = get_or bad k d in
+      let inside = (have.others k d within).0 in
+      get_or_append_left paths (path ∷ []) [] at (omega (arith, inside, have.count))
+      ∙ have.shown k d within ∙ ap shown_name (sym (get_or_append_left sources (name ∷ []) [] at inside))
+
 -- the path of a source is its name
 pub with_name : (sources paths : List (List ℕ)) (bad : List ℕ) (name : List ℕ) → HavePaths sources paths bad
     → HavePaths (sources ++ name ∷ []) (paths ++ name ∷ []) bad
@@ -52,13 +60,15 @@ with_name sources paths bad name have = record {
         | inr last ↦ get_or_push paths name [] at (have.count ∙ sym last) ∙ sym (get_or_push sources name [] at (sym last))
       ];
   others = All-weaker _ _ (still_bad sources paths bad name name have) bad have.others;
+  shown = still_shown sources paths bad name name have;
   rising = have.rising;
 }
 
 -- a source whose name is not UTF-8 has no path
 pub with_bad : (sources paths : List (List ℕ)) (bad : List ℕ) (name path : List ℕ) → ¬ IsUtf8 name
+    → path ≡ shown_name name
     → HavePaths sources paths bad → HavePaths (sources ++ name ∷ []) (paths ++ path ∷ []) (bad ++ length paths ∷ [])
-with_bad sources paths bad name path amiss have =
+with_bad sources paths bad name path amiss is have =
     let number = length paths in
     record {
       count = longer sources paths bad name path have;
@@ -75,6 +85,10 @@ with_bad sources paths bad name path amiss have =
             omega (arith, have.count, length-append sources (name ∷ [])),
             λ utf8. amiss (subst IsUtf8 (get_or_push sources name [] number (sym have.count)) utf8),
           );
+      shown = All-push (λ at. get_or (paths ++ path ∷ []) at [] ≡ shown_name (get_or (sources ++ name ∷ []) at []))
+          bad number (still_shown sources paths bad name path have)
+          (get_or_push paths path [] number refl ∙ is
+          ∙ ap shown_name (sym (get_or_push sources name [] number (sym have.count))));
       rising = λ one other low high.
           elim (last_or_before other (length bad) (omega (arith, high, length-append bad (number ∷ [])))) [
             | inl before ↦
@@ -98,6 +112,7 @@ have_given sources paths is = record {
   count = ap length is;
   named = λ at within other. ap (λ (xs : List (List ℕ)). get_or xs at []) is;
   others = λ k d within. absurd (omega (arith, within));
+  shown = λ k d within. absurd (omega (arith, within));
   rising = λ one other low high. absurd (omega (arith, high));
 }
 
@@ -127,15 +142,16 @@ all_named sources paths have = same_names sources paths have.count
 
 -- the same of texts that were pushed
 pub pushed_bad : (given : List (List ℕ)) (part : List ℕ) (old new : List (String Global)) (path : String Global)
-    (bad bad_new : List ℕ) → ¬ IsUtf8 part → new ≡ old ++ path ∷ [] → bad_new ≡ bad ++ length old ∷ []
+    (bad bad_new : List ℕ) → ¬ IsUtf8 part → string_bytes path ≡ shown_name part → new ≡ old ++ path ∷ []
+    → bad_new ≡ bad ++ length old ∷ []
     → HavePaths given (map (λ text. string_bytes text) old) bad
     → HavePaths (given ++ part ∷ []) (map (λ text. string_bytes text) new) bad_new
-pushed_bad given part old new path bad bad_new amiss is numbers have =
+pushed_bad given part old new path bad bad_new amiss shown is numbers have =
     let texts = map (λ (text : String Global). string_bytes text) old in
     rw (is, numbers, map_push (λ (text : String Global). string_bytes text) old path)
     (subst (λ (n : ℕ). HavePaths (given ++ part ∷ []) (texts ++ string_bytes path ∷ []) (bad ++ n ∷ []))
     (length-map old (λ (text : String Global). string_bytes text))
-    (with_bad given texts bad part (string_bytes path) amiss have))
+    (with_bad given texts bad part (string_bytes path) amiss shown have))
 
 -- ---- the names of a list
 

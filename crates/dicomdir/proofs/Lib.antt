@@ -2,6 +2,7 @@ mod AddingUp
 mod BadNames
 mod BadUids
 mod CountLines
+mod CountedFiles
 mod DryRuns
 mod Due
 mod DueRefusals
@@ -9,8 +10,10 @@ mod EmptyWords
 mod EngineMade
 mod FaultLines
 mod FirstPaths
+mod GroundedPiles
 mod HavingPaths
 mod InPiles
+mod IndexGrounds
 mod Inspected
 mod InspectedLines
 mod KeptListed
@@ -18,6 +21,7 @@ mod LinesLast
 mod LinesMade
 mod LinesRefused
 mod LinesSaid
+mod LongFiles
 mod LookedUp
 mod MadeLast
 mod Masking
@@ -31,11 +35,13 @@ mod PilesMade
 mod PilesOfSources
 mod Piling
 mod PrintedLines
+mod ReadSources
 mod RefusedRuns
 mod SaidByFiles
 mod SaidByLists
 mod SaidBySets
 mod SaidLines
 mod SetAgain
+mod SetsGrounds
 mod SetsOfParts
 mod StagedSources

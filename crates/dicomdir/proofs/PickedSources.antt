@@ -1,19 +1,16 @@
 -- The sources that images are made of have versions, so that their names are paths.
 use Rattle.std.proofs.Common.{◌≡◌, ◌∙◌, ◌+◌, ◌<◌, ℕ, suc, List, [], ◌∷◌, Bool, Option, None, Some, Ok, Err}
-use Rattle.std.proofs.Common.{arith, false, get_or, length, map, refl, subst, sym, true}
+use Rattle.std.proofs.Common.{arith, false, get_or, length, map, refl, subst, true}
 use Rattle.std.proofs.lemmas.List.Elements.{All-cons, All-contains, All-weaker}
 use Rattle.std.proofs.lemmas.Option.{slice_get_within}
-use Rattle.std.proofs.lemmas.Str.{IsUtf8-from_is_utf8, is_utf8-from_IsUtf8}
 use Rattle.std.specs.Prelude.{All, IfSome, filter, if◌then◌else◌, slice_get}
-use Rattle.std.specs.Str.{IsUtf8, is_utf8}
-use Rattle.dd_catalogue.specs.Rising.{by_test}
+use Rattle.std.specs.Str.{IsUtf8}
 use Rattle.dd_engine.specs.Indexing.{accepted, accepted_from}
 use Rattle.dd_engine.specs.PastFailures.{Reading, answers_of}
 use Rattle.dd_engine.specs.Picking.{ArePicked, FileKey, file_of, files_of, found, found_by, is_image, is_one}
 use Rattle.dd_files.specs.Files.{Held}
 use Rattle.dd_layout.specs.declared.record.PlanRecord.{PlanRecord}
 use Rattle.dd_version.specs.declared.parts.Parts.{Parts}
-use Rattle.dicomdir.proofs.SaidByFiles.{no_version}
 use Rattle.dd_file_set.proofs.Unlinked.{SaysToo}
 use Rattle.dicomdir.specs.Indexes.{AnswersName, AreRead, IsRead}
 use Rattle.dicomdir.specs.ListedNames.{HavePaths}
@@ -22,7 +19,7 @@ use Rattle.dicomdir.specs.Origins.{IsPathAt}
 -- ---- what is picked
 
 -- the source was read, and has a version
-abbrev HasVersion : List Reading → ℕ → Type 0
+abbrev pub HasVersion : List Reading → ℕ → Type 0
 HasVersion readings at = (version : Parts) × (slice_get readings at ≡ Some (Ok (Ok version)))
 
 -- what is found among these from a number on
@@ -71,7 +68,7 @@ each_found f Q of (row ∷ rows) (pick ∷ picks) is =
     let later : map (λ (n : ℕ). Some n) picks ≡ map f rows = cc in
     All-cons Q pick picks (of row pick here) (each_found f Q of rows picks later)
 
-picks_have : (readings : List Reading) (versions : List Parts) (rows : List PlanRecord) (picks : List ℕ)
+pub picks_have : (readings : List Reading) (versions : List Parts) (rows : List PlanRecord) (picks : List ℕ)
     → ArePicked (files_of (accepted (answers_of readings))) versions rows picks → All (HasVersion readings) picks
 picks_have readings versions rows picks is =
     each_found (λ row. found_by (files_of (accepted (answers_of readings))) (slice_get versions row.of))
@@ -79,13 +76,6 @@ picks_have readings versions rows picks is =
     (filter is_image rows) picks is
 
 -- ---- their names
-
--- a name of which a version was read is UTF-8
-utf8_of : (old : Option Held) (name : List ℕ) (version : Parts) → AnswersName old name (Ok version) → IsUtf8 name
-utf8_of old name version answers = by_test (is_utf8 name)
-    (λ is. IsUtf8-from_is_utf8 name is)
-    (λ is. absurd (no_version version ((answers.none (λ path.
-    (let amiss : true ≡ false = sym (is_utf8-from_IsUtf8 name path) ∙ is in cc))).fits (omega arith)).found))
 
 module _ (sources paths : List (List ℕ)) (bad : List ℕ) (old : Option Held) (readings : List Reading)
     (have : HavePaths sources paths bad) (read : AreRead sources old readings) where
@@ -97,7 +87,7 @@ module _ (sources paths : List (List ℕ)) (bad : List ℕ) (old : Option Held) 
       subst (λ (o : Option Reading). IfSome o (IsRead old (get_or sources at []))) is (read.each at) in
       have.named at within (λ has.
       (All-contains (λ n. (n < length sources) × ¬ IsUtf8 (get_or sources n [])) bad at have.others has).1
-      (utf8_of old (get_or sources at []) version answers))
+      answers.path)
 
   -- the paths of the picks are their names
   pub picks_named : (versions : List Parts) (rows : List PlanRecord) (picks : List ℕ)

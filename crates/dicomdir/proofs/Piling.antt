@@ -3,7 +3,6 @@ use Rattle.std.proofs.Common.{◌≡◌, ◌∙◌, ◌+◌, ◌<◌, ◌++◌, 
 use Rattle.std.proofs.Common.{arith, get_or, inl, inr, length, map, refl, string_bytes, subst, sym, take}
 use Rattle.std.proofs.lemmas.List.{get_or_append_left, get_or_push, length_push, map_push}
 use Rattle.std.proofs.lemmas.List.{length-take-le, take_more}
-use Rattle.std.specs.Str.{IsUtf8}
 use Rattle.dd_engine.specs.Found.{HasFound}
 use Rattle.dd_engine.specs.Indexing.{Answer}
 use Rattle.dd_files.specs.Files.{Held}
@@ -13,15 +12,15 @@ use Rattle.dd_staged.specs.Sources.{Source}
 use Rattle.dd_staged.specs.Stages.{IsStage}
 use Rattle.dicomdir.proofs.HavingPaths.{last_or_before}
 use Rattle.dicomdir.proofs.InPiles.{in_more, in_start, in_within, same_sources, sources_more}
-use Rattle.dicomdir.specs.Publishes.{AreLists, ArePlaces, AreShown, HasPiled, IsPiled, IsPlaceOf, answers_in}
-use Rattle.dicomdir.specs.Publishes.{names_in, sources_in}
+use Rattle.dicomdir.specs.Publishes.{AreLists, ArePlaces, AreShown, HasPiled, IsPiled, IsPlaceOf, IsShown}
+use Rattle.dicomdir.specs.Publishes.{answers_in, names_in, sources_in}
 use Rattle.dicomdir.specs.declared.piles.Piled.{Piled}
 use Rattle.dicomdir.specs.declared.piles.Place.{Place}
 
 -- ---- no source yet
 
 none_shown : AreShown [] []
-none_shown = record { count = refl; each = λ at within utf8. absurd (omega (arith, within)) }
+none_shown = record { count = refl; each = λ at within. absurd (omega (arith, within)) }
 
 none_placed : ArePlaces [] []
 none_placed = record {
@@ -58,17 +57,19 @@ piled_start lists piled is = record {
 -- ---- one source more
 
 shown_more : (names shown : List (List ℕ)) (name text : List ℕ) → AreShown names shown
-    → (IsUtf8 name → text ≡ name) → AreShown (names ++ name ∷ []) (shown ++ text ∷ [])
+    → IsShown name text → AreShown (names ++ name ∷ []) (shown ++ text ∷ [])
 shown_more names shown name text are same = record {
   count = omega (arith, are.count, length_push shown text, length_push names name);
-  each = λ at within utf8.
+  each = λ at within.
       elim (last_or_before at (length names) (omega (arith, within, length_push names name))) [
-        | inl before ↦ get_or_append_left shown (text ∷ []) [] at (omega (arith, before, are.count))
-            ∙ are.each at before (subst IsUtf8 (get_or_append_left names (name ∷ []) [] at before) utf8)
-            ∙ sym (get_or_append_left names (name ∷ []) [] at before)
-        | inr last ↦ get_or_push shown text [] at (are.count ∙ sym last)
-            ∙ same (subst IsUtf8 (get_or_push names name [] at (sym last)) utf8)
-            ∙ sym (get_or_push names name [] at (sym last))
+        | inl before ↦ rw (
+          get_or_append_left shown (text ∷ []) [] at (omega (arith, before, are.count)),
+          get_or_append_left names (name ∷ []) [] at before,
+        ) (are.each at before)
+        | inr last ↦ rw (
+          get_or_push shown text [] at (are.count ∙ sym last),
+          get_or_push names name [] at (sym last),
+        ) same
       ];
 }
 
@@ -122,7 +123,7 @@ module _ (lists : List (List Source)) (part : List Source) (source : Source) whe
 
   -- a source was added: its name as lines show it, its place, and what was found of it
   pub piled_more : (old new : Piled) (text : String Global) (place : Place) → IsPiled before old
-      → new.names.items ≡ old.names.items ++ text ∷ [] → (IsUtf8 source.name → string_bytes text ≡ source.name)
+      → new.names.items ≡ old.names.items ++ text ∷ [] → IsShown source.name (string_bytes text)
       → new.places.items ≡ old.places.items ++ place ∷ [] → IsPlaceOf (length lists) (length part) place
       → place.size ≡ source.size → ((answers : List Answer) → HasFound answers old.found → HasFound (answers ++ source.found ∷ []) new.found)
       → IsPiled after new

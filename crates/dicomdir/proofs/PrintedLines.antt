@@ -1,7 +1,8 @@
 -- What a command prints, from the notes to the last line.
-use Rattle.std.proofs.Common.{◌≡◌, ◌≢◌, ◌≤◌, ◌<◌, ◌↔◌, ℕ, zero, suc, List, [], ◌∷◌, ◌++◌, Bool, Option, arith, false}
+use Rattle.std.proofs.Common.{◌≡◌, ◌≢◌, ◌∙◌, ◌≤◌, ◌<◌, ◌↔◌, ℕ, zero, suc, List, [], ◌∷◌, ◌++◌, Bool, Option, arith}
+use Rattle.std.proofs.Common.{false}
 use Rattle.std.proofs.Common.{inl, inr, length, refl, sym, true, true≢false}
-use Rattle.std.specs.Prelude.{Err, IfOk, IsTrue, Ok, Result}
+use Rattle.std.specs.Prelude.{Err, IfOk, IfSome, IsTrue, None, Ok, Result, Some}
 use Rattle.dd_elem.specs.declared.device.Write.{Ghosts as WriteOf}
 use Rattle.dd_engine.specs.declared.choice.Choice.{Choice}
 use Rattle.dd_engine.specs.declared.noted_index.NotedIndex.{NotedIndex}
@@ -10,12 +11,14 @@ use Rattle.dd_engine.specs.MergeNotes.{NotesSets}
 use Rattle.dd_files.specs.Files.{Held}
 use Rattle.dd_json.specs.declared.value.Style.{Style}
 use Rattle.dd_lines.specs.Text.{TakesText}
-use Rattle.dicomdir.specs.Indexes.{Indexes, limits_of, status_past}
+use Rattle.dicomdir.specs.FileSupply.{bytes_read}
+use Rattle.dicomdir.specs.Indexes.{CountsPicks, Indexes, bytes_of_files, limits_of, status_past}
 use Rattle.dicomdir.specs.ListedNames.{HavePaths}
 use Rattle.dicomdir.specs.Merges.{AreDirectories}
 use Rattle.dicomdir.specs.Noted.{IsNoted, IsNotedIndex}
 use Rattle.dicomdir.specs.Prints.{IsLastLine, PrintsIndex, PrintsMerge, last_line}
 use Rattle.dicomdir.specs.Said.{SaysNotes, SaysSetNotes}
+use Rattle.dicomdir.specs.declared.source_counts.SourceCounts.{SourceCounts}
 use Rattle.dicomdir.proofs.SaidLines.{takes_both}
 
 -- a strict run goes on only where nothing is noted
@@ -29,7 +32,7 @@ module _ {W : Type 0} (writer : WriteOf W) (style : Style) (is_dry is_strict kee
   -- the last line was printed after the notes, unless the output failed
   pub index_prints : (status : ℕ) → HavePaths sources paths bad → Indexes keeps_going choice bytes sources files noted
       → (notes : List ℕ) × SaysNotes style paths noted notes × TakesText writer old mid notes
-      → (is_strict ≡ true → ¬ IsNotedIndex noted) → IsLastLine style is_dry noted.indexed.plan line
+      → (is_strict ≡ true → ¬ IsNotedIndex noted) → IsLastLine style is_dry sources files noted.indexed line
       → (status ≡ 0 → TakesText writer mid new line) → status ≤ 1
       → status_past status noted.indexed.skipped.items ≢ 1
       → PrintsIndex writer style is_dry is_strict keeps_going choice bytes sources
@@ -50,6 +53,13 @@ module _ {W : Type 0} (writer : WriteOf W) (style : Style) (is_dry is_strict kee
     last = last;
     printed = takes_both writer old mid new notes line took (next refl);
   }
+
+-- the bytes of images, where those of the sources were counted
+pub images_counted : (files : Option Held) (names : List (List ℕ)) (counts : List SourceCounts) (picks : List ℕ)
+    (images : ℕ) → images ≡ bytes_read counts picks → CountsPicks names counts picks files
+    → IfSome files (λ held. images ≡ bytes_of_files held names picks)
+images_counted None names counts picks images is counted = tt
+images_counted (Some held) names counts picks images is counted = is ∙ counted
 
 -- ---- file-sets
 

@@ -11,17 +11,19 @@ use Rattle.dd_file_set.specs.declared.refusal.Refusal.{Refusal}
 use Rattle.dd_file_set.specs.declared.refusal.Subject.TheVariants.{General}
 use Rattle.dd_files.specs.Files.{Held}
 use Rattle.dd_line.specs.Line.{words_of}
-use Rattle.dd_line.specs.Requests.{folder_of, read_of}
+use Rattle.dd_line.specs.Requests.{folder_of, id_of, instances_of, read_of, uid_of}
 use Rattle.dd_line.specs.declared.request.Request.{Request}
 use Rattle.dicomdir.specs.EmptyPaths.{RequestsEmptyPath}
 use Rattle.dicomdir.specs.Faults.{TellsRefusal, given_list}
+use Rattle.dicomdir.specs.Grounds.{HasGrounds}
+use Rattle.dicomdir.specs.Names.{choice_by}
 use Rattle.dicomdir.specs.Reasons.{IsDue, IsDueBefore}
 use Rattle.dicomdir.specs.Refused.{IsRefused, MayNameOf, refuses_notes}
 
 module _ {R E : Type 0} (reads : ReadOf R) (writer : WriteOf E) (r : Request) (refusals failures : ℕ)
-    (may_be_taken : List ℕ → Type 0) (files : Option Held) (old new : E) (refusal : Refusal) where
+    (may_be_taken : List ℕ → Type 0) (files left : Option Held) (old new : E) (refusal : Refusal) where
   abbrev Refused : Type 0
-  Refused = IsRefused reads writer r refusals failures may_be_taken files old new
+  Refused = IsRefused reads writer r refusals failures may_be_taken files left old new
 
   -- before the work
   pub refused_before : (counts : ℕ) → refusals ≡ counts
@@ -37,12 +39,17 @@ module _ {R E : Type 0} (reads : ReadOf R) (writer : WriteOf E) (r : Request) (r
 
   -- in the work
   pub refused_in : (counts failed : ℕ) (sources : List Text) → refusals ≡ counts → failures ≡ failed
-      → IsDue reads counts failed (refuses_notes r) refusal.fault → MayNameOf r files sources
+      → IsDue reads counts failed (refuses_notes r) refusal.fault
+      → HasGrounds r (choice_by (id_of r) (uid_of r)) (words_of (instances_of r)) files left refusal
+      → MayNameOf r files sources
       → TellsRefusal writer r (folder_of r) sources (given_list r) refusal.subject old new → Refused
-  refused_in counts failed sources same same_too due are told = record {
+  refused_in counts failed sources same same_too due grounds are told = record {
     refusal = refusal;
-    due = inr (inr (inl (subst (λ (n : ℕ). IsDue reads n failures (refuses_notes r) refusal.fault) (sym same)
-        (subst (λ (n : ℕ). IsDue reads counts n (refuses_notes r) refusal.fault) (sym same_too) due))));
+    due = inr (inr (inl (
+      subst (λ (n : ℕ). IsDue reads n failures (refuses_notes r) refusal.fault) (sym same)
+          (subst (λ (n : ℕ). IsDue reads counts n (refuses_notes r) refusal.fault) (sym same_too) due),
+      grounds,
+    )));
     sources = sources;
     are = are;
     told = told;
@@ -61,14 +68,14 @@ module _ {R E : Type 0} (reads : ReadOf R) (writer : WriteOf E) (r : Request) (r
 
 -- since an allocation was refused for the names
 pub refused_names : {R E : Type 0} (reads : ReadOf R) (writer : WriteOf E) (r : Request) (refusals failures : ℕ)
-    (may_be_taken : List ℕ → Type 0) (files : Option Held) (old new : E) (fault : ProgramFault) (status : ℕ)
+    (may_be_taken : List ℕ → Type 0) (files left : Option Held) (old new : E) (fault : ProgramFault) (status : ℕ)
     (folder : List ℕ) (sources : List Text) (list : List ℕ) → status ≡ 1 → (IsBadLine fault → status ≡ 2)
     → IsBadLine fault ⊎ (fault ≡ Memory) → TellsRefusal writer r folder sources list General old new
-    → IsRefused reads writer r refusals failures may_be_taken files old new
-refused_names reads writer r refusals failures may_be_taken files old new fault status folder sources list one two
+    → IsRefused reads writer r refusals failures may_be_taken files left old new
+refused_names reads writer r refusals failures may_be_taken files left old new fault status folder sources list one two
     (inl bad) told =
     let amiss = two bad in absurd (cc)
-refused_names reads writer r refusals failures may_be_taken files old new fault status folder sources list one two
+refused_names reads writer r refusals failures may_be_taken files left old new fault status folder sources list one two
     (inr memory) told = record {
       refusal = record { subject = General; fault = fault };
       due = inr (inr (inr memory));

@@ -1,12 +1,10 @@
 -- The versions that `index` reads are those of the files at its sources.
 use Rattle.std.proofs.Common.{◌≡◌, ◌<◌, ◌≤◌, ◌∙◌, ℕ, zero, suc, List, [], ◌∷◌, Option, None, Some, Ok, Err}
-use Rattle.std.proofs.Common.{ap, arith, false, inl, inr, length, length-append, refl, subst, sym, true}
-use Rattle.std.specs.Prelude.{◌++◌, Contains, IfErr, IfSome, slice_get, slice_index_or, unwrap_or}
-use Rattle.std.specs.Str.{IsUtf8, is_utf8}
+use Rattle.std.proofs.Common.{ap, arith, false, inl, inr, length, refl, subst, true}
+use Rattle.std.specs.Prelude.{Contains, IfErr, IfSome, IsSomeAnd, slice_get, slice_index_or}
+use Rattle.std.specs.Str.{IsUtf8}
 use Rattle.std.proofs.lemmas.Option.{slice_get_cases, slice_get_within}
-use Rattle.std.proofs.lemmas.Str.{IsUtf8-from_is_utf8, is_utf8-from_IsUtf8}
 use Rattle.clap.specs.Words.{Text}
-use Rattle.dd_catalogue.specs.Rising.{by_test}
 use Rattle.dd_catalogue.proofs.Members.{Member, contained}
 use Rattle.dd_engine.specs.Indexing.{Answer, accepted, accepted_from, versions_of}
 use Rattle.dd_engine.specs.PastFailures.{Reading, answers_of}
@@ -63,16 +61,6 @@ is_at (one ∷ names) (suc k) name below is = is_at names k name (omega arith) i
 
 -- ---- what one file says
 
-no_front : (front rest : List ℕ) → [] ≡ front ++ rest → length front ≡ 0
-no_front front rest is = omega (arith, ap length is, length-append front rest)
-
--- an empty file has no version
-pub no_version : (version : Parts) → IsVersion [] version → ⊥
-no_version version is =
-    let file = is.is_file in
-    let none : length file.preamble ≡ 0 = no_front file.preamble _ file.parts in
-    omega (arith, none, file.free)
-
 pub short_file : (file : List ℕ) (version : Parts) → AnswersSource most_of_source file (Ok version)
     → length file ≤ most_of_source
 short_file file version answers =
@@ -81,8 +69,8 @@ short_file file version answers =
 
 module _ (held : Held) (names : List Text) (name : Text) (among : Contains names name) (version : Parts) where
   says_by : (file : Option (List ℕ)) → held.bytes_at name ≡ file → IsUtf8 name
-      → AnswersSource most_of_source (unwrap_or file []) (Ok version) → OneFileSays names held version
-  says_by None is path answers = absurd (no_version version (answers.fits (omega arith)).found)
+      → IsSomeAnd file (λ file. AnswersSource most_of_source file (Ok version)) → OneFileSays names held version
+  says_by None is path answers = absurd answers
   says_by (Some file) is path answers =
       let short = short_file file version answers in
       record {
@@ -96,10 +84,7 @@ module _ (held : Held) (names : List Text) (name : Text) (among : Contains names
       }
 
   says_of : AnswersName (Some held) name (Ok version) → OneFileSays names held version
-  says_of answers = by_test (is_utf8 name)
-      (λ is. let path = IsUtf8-from_is_utf8 name is in says_by (held.bytes_at name) refl path (answers.path path))
-      (λ is. absurd (no_version version ((answers.none (λ path.
-      (let amiss : true ≡ false = sym (is_utf8-from_IsUtf8 name path) ∙ is in cc))).fits (omega arith)).found))
+  says_of answers = says_by (held.bytes_at name) refl answers.path answers.right
 
 -- ---- the answer for a file that has a version
 
@@ -147,8 +132,8 @@ module _ (held : Held) (names : List Text) (readings : List Reading) (read : Are
       let answers : AnswersName (Some held) says.name answer =
       subst (λ (name : Text). AnswersName (Some held) name answer) same (reading_at k (Ok answer) is) in
       let right : AnswersSource most_of_source says.file answer =
-      subst (λ (o : Option (List ℕ)). AnswersSource most_of_source (unwrap_or o []) answer) says.there
-      (answers.path says.path) in
+      subst (λ (o : Option (List ℕ)). IsSomeAnd o (λ file. AnswersSource most_of_source file answer)) says.there
+      answers.right in
       version_is says.file version answer answers.settled (right.fits says.short) says.right
 
   pub kept_of_said : (version : Parts) → NoneFailed readings → OneFileSays names held version

@@ -1,8 +1,10 @@
 -- What `index` makes of the files at its sources.
-use Rattle.std.specs.Prelude.{◌≡◌, ◌↔◌, ◌≤◌, ◌≢◌, ◌⊎◌, ℕ, zero, suc, List, Bool, true, false, Option, Result, Ok, Err, IfOk, IfSome, IsOk}
-use Rattle.std.specs.Prelude.{[], IfErr, length, slice_get, slice_index_or, if◌then◌else◌}
+use Rattle.std.specs.Prelude.{◌≡◌, ◌↔◌, ◌≤◌, ◌≢◌, ◌⊎◌, ℕ, zero, suc, List, Bool, true, false, Option, Result, Ok, Err}
+use Rattle.std.specs.Prelude.{[], IfErr, IfOk, IfSome, IsOk, IsSomeAnd, length, min, slice_get, slice_index_or, sum_by}
+use Rattle.std.specs.Prelude.{if◌then◌else◌, unwrap_or}
 use Rattle.std.specs.List.{AllByRecursion, list_any}
 use Rattle.std.specs.Str.{IsUtf8}
+use Rattle.dd_elem.specs.Device.{last_count}
 use Rattle.dd_elem.specs.FileId.{max_rank}
 use Rattle.dd_engine.specs.declared.choice.Choice.{Choice}
 use Rattle.dd_engine.specs.declared.engine.Indexed.{Indexed}
@@ -17,8 +19,9 @@ use Rattle.dd_files.specs.Keeping.{IfSaid}
 use Rattle.dd_keys.specs.declared.fault.KeyFault.{KeyFault}
 use Rattle.dd_keys.specs.declared.fault.KeyFault.TheVariants.{Read}
 use Rattle.dd_layout.specs.Limits.{Limits}
-use Rattle.dicomdir.specs.FileSupply.{contents_at}
+use Rattle.dicomdir.specs.FileSupply.{bytes_read}
 use Rattle.dicomdir.specs.Origins.{IsPathAt}
+use Rattle.dicomdir.specs.declared.source_counts.SourceCounts.{SourceCounts}
 use Rattle.dd_file_set.specs.Standing.{StandsWhole}
 
 -- the most bytes of a source
@@ -31,11 +34,13 @@ limits_of bytes = record { bytes = bytes; per_level = max_rank }
 
 -- ---- what was read
 
--- The answer for the file of the source of this name. A name that is not UTF-8 is no path, so it has no file.
+-- The answer for the file of the source of this name. A name that is not UTF-8 is no path, so there is no such answer;
+-- nor is there one where the files say what they hold, and none stands there.
 pub record AnswersName (files : Option Held) (name : List ℕ) (answer : Answer) : Type 0 where
   pub settled : IfErr answer IsOfSource
-  pub path : IsUtf8 name → IfSome (contents_at files name) (λ file. AnswersSource most_of_source file answer)
-  pub none : ¬ IsUtf8 name → AnswersSource most_of_source [] answer
+  pub path : IsUtf8 name
+  pub right : IfSome files (λ held.
+      IsSomeAnd (held.bytes_at name) (λ file. AnswersSource most_of_source file answer))
 
 -- what was read of it: this answer, or its bytes could not be had
 abbrev pub IsRead : Option Held → List ℕ → Reading → Type 0
@@ -59,6 +64,16 @@ pub record Indexes (keeps_going : Bool) (choice : Choice) (bytes : ℕ) (sources
   pub read : AreRead sources old readings
   pub all : keeps_going ≡ false → NoneFailed readings
   pub notes : NotesIndex choice (limits_of bytes) (answers_of readings) (Ok noted)
+
+-- the bytes of the files at these of the names, up to the largest count
+abbrev pub bytes_of_files : Held → List (List ℕ) → List ℕ → ℕ
+bytes_of_files held sources picks =
+    min (sum_by (λ at. length (unwrap_or (held.bytes_at (slice_index_or sources at [])) [])) picks) last_count
+
+-- as many bytes were read of these sources as the files at their names have, where the files say what they hold
+abbrev pub CountsPicks : List (List ℕ) → List SourceCounts → List ℕ → Option Held → Type 0
+CountsPicks sources counts picks files =
+    IfSome files (λ held. bytes_read counts picks ≡ bytes_of_files held sources picks)
 
 -- ---- the status
 

@@ -4,6 +4,7 @@ pub mod EmptyPaths
 pub mod Faults
 pub mod FileSupply
 pub mod From
+pub mod Grounds
 pub mod Headline
 pub mod Indexes
 pub mod Inspecting

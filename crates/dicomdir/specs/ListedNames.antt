@@ -1,13 +1,15 @@
 -- Lists of names in which a zero byte ends each name.
 use Rattle.std.specs.Prelude.{◌≡◌, ◌≢◌, ◌<◌, ◌≤◌, ◌-◌, ◌⊎◌, ◌++◌, ◌==◌, ℕ, List, [], ◌∷◌, if◌then◌else◌}
-use Rattle.std.specs.Prelude.{All, Bool, Contains, None, Option, Some, false, length, max, option_map, slice_index_or}
+use Rattle.std.specs.Prelude.{◌&&◌, All, Bool, Contains, None, Option, Some, false, length, map, max, nat_le}
+use Rattle.std.specs.Prelude.{option_map, slice_index_or}
 use Rattle.std.specs.Prelude.{string_bytes, true}
 use Rattle.std.specs.List.{AllWithin, flat_map, onto_first}
 use Rattle.std.specs.Str.{IsUtf8}
 use Rattle.clap.specs.Words.{Text}
 use Rattle.dd_files.specs.Files.{Held}
 use Rattle.dd_line.specs.declared.request.Request.{Request}
-use Rattle.dd_line.specs.declared.request.Request.TheVariants.{Check, Index, List as ListSet, Merge, Publish, Stage, Withdraw}
+use Rattle.dd_line.specs.declared.request.Request.TheVariants.{Check, Index, List as ListSet, Merge, Publish, Stage}
+use Rattle.dd_line.specs.declared.request.Request.TheVariants.{Withdraw}
 use Rattle.dd_file_set.specs.Made.{HasBytes}
 use Rattle.dicomdir.specs.From.{from_text, looked_up_list}
 
@@ -65,13 +67,21 @@ abbrev pub AreRising : List ℕ → Type 0
 AreRising numbers = (one other : ℕ) → one ≤ other → other < length numbers
     → slice_index_or numbers one 0 ≤ slice_index_or numbers other 0
 
+-- a name that is not UTF-8 as lines show it: `?` (63) stands for each byte outside 20H to 7EH
+abbrev pub shown_byte : ℕ → ℕ
+shown_byte byte = if nat_le 32 byte && nat_le byte 126 then byte else 63
+
+abbrev pub shown_name : List ℕ → List ℕ
+shown_name name = map shown_byte name
+
 -- The paths of these sources: each is the name of its source. A name that is not UTF-8 is no path, and its number is one
--- of these, which rise.
+-- of these, which rise. In its place stands what lines show.
 pub record HavePaths (sources paths : List (List ℕ)) (bad : List ℕ) : Type 0 where
   pub count : length paths ≡ length sources
   pub named : (at : ℕ) → at < length sources → ¬ Contains bad at
       → slice_index_or paths at [] ≡ slice_index_or sources at []
   pub others : All (λ at. (at < length sources) × ¬ IsUtf8 (slice_index_or sources at [])) bad
+  pub shown : All (λ at. slice_index_or paths at [] ≡ shown_name (slice_index_or sources at [])) bad
   pub rising : AreRising bad
 
 -- these are the paths of some sources

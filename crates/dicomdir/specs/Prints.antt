@@ -1,7 +1,8 @@
 -- What a command prints where it is done: what it says of its sources, and then what it made, or would make.
-use Rattle.std.specs.Prelude.{◌≡◌, ℕ, List, ◌++◌, Bool, true, false, Option, Ok, length}
+use Rattle.std.specs.Prelude.{◌≡◌, ℕ, List, ◌++◌, Bool, true, false, Option, Ok, IfSome, length}
 use Rattle.dd_elem.specs.declared.device.Write.{Ghosts as WriteOf}
 use Rattle.dd_engine.specs.declared.choice.Choice.{Choice}
+use Rattle.dd_engine.specs.declared.engine.Indexed.{Indexed}
 use Rattle.dd_engine.specs.declared.noted_index.NotedIndex.{NotedIndex}
 use Rattle.dd_engine.specs.declared.noted_merge.NotedMerge.{NotedMerge}
 use Rattle.dd_engine.specs.MergeNotes.{NotesSets}
@@ -12,7 +13,7 @@ use Rattle.dd_layout.specs.Plans.{size}
 use Rattle.dd_lines.specs.Text.{TakesText}
 use Rattle.dicomdir.specs.Done.{ending_text, images_text}
 use Rattle.dicomdir.specs.declared.making.Ending.TheVariants.{Done, Planned}
-use Rattle.dicomdir.specs.Indexes.{Indexes, limits_of, status_past}
+use Rattle.dicomdir.specs.Indexes.{Indexes, bytes_of_files, limits_of, status_past}
 use Rattle.dicomdir.specs.ListedNames.{HavePaths}
 use Rattle.dicomdir.specs.Merges.{AreDirectories}
 use Rattle.dicomdir.specs.Noted.{IsNoted, IsNotedIndex}
@@ -24,14 +25,17 @@ size_of plan = size plan.label plan.versions plan.withdrawn
 
 -- ---- `index`
 
--- The last line: of a file-set with this layout that was made or, where nothing is made, of one that would be, with the
--- number of bytes of its images.
-abbrev pub IsLastLine : Style → Bool → Layout → List ℕ → Type 0
-IsLastLine style false plan line = line ≡ ending_text style Done (length plan.versions) (size_of plan)
-IsLastLine style true plan line = (images : ℕ) × (line ≡ images_text style (length plan.versions) (size_of plan) images)
+-- The last line: of a file-set with this index that was made or, where nothing is made, of one that would be. That has
+-- the number of bytes of its images, which are copies of files of these names.
+abbrev pub IsLastLine : Style → Bool → List (List ℕ) → Option Held → Indexed → List ℕ → Type 0
+IsLastLine style false sources files indexed line =
+    line ≡ ending_text style Done (length indexed.plan.versions) (size_of indexed.plan)
+IsLastLine style true sources files indexed line = (images : ℕ)
+    × IfSome files (λ held. images ≡ bytes_of_files held sources indexed.picks.items)
+    × (line ≡ images_text style (length indexed.plan.versions) (size_of indexed.plan) images)
 
--- The notes on what was read of these sources, and then the last line. A source is shown by its name, or by some text
--- where its name is not UTF-8. In a strict run nothing is noted. The status says whether each source was read whole.
+-- The notes on what was read of these sources, and then the last line. In a strict run nothing is noted. The status
+-- says whether each source was read whole.
 pub record PrintsIndex {W : Type 0} (writer : WriteOf W) (style : Style) (is_dry is_strict keeps_going : Bool)
     (choice : Choice) (bytes : ℕ) (sources : List (List ℕ)) (status : ℕ) (files : Option Held) (old new : W)
     : Type 0 where
@@ -45,7 +49,7 @@ pub record PrintsIndex {W : Type 0} (writer : WriteOf W) (style : Style) (is_dry
   pub said : SaysNotes style paths noted notes
   pub strict : is_strict ≡ true → ¬ IsNotedIndex noted
   pub line : List ℕ
-  pub last : IsLastLine style is_dry noted.indexed.plan line
+  pub last : IsLastLine style is_dry sources files noted.indexed line
   pub printed : TakesText writer old new (notes ++ line)
 
 -- ---- `merge` and `withdraw`

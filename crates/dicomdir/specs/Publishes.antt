@@ -26,6 +26,7 @@ use Rattle.dd_staged.specs.Sources.{Source}
 use Rattle.dd_staged.specs.Stages.{IsStage}
 use Rattle.dicomdir.specs.Done.{ending_text, images_text}
 use Rattle.dicomdir.specs.Indexes.{limits_of}
+use Rattle.dicomdir.specs.ListedNames.{shown_name}
 use Rattle.dicomdir.specs.Noted.{IsNotedIndex}
 use Rattle.dicomdir.specs.Prints.{size_of}
 use Rattle.dicomdir.specs.Said.{SaysNotes}
@@ -61,11 +62,15 @@ names_in lists = map (λ source. source.name) (sources_in lists)
 abbrev pub sizes_in : List (List Source) → List ℕ
 sizes_in lists = map (λ source. source.size) (sources_in lists)
 
--- names as lines show them: a name that is not UTF-8 is shown by some text
+-- a name as lines show it
+pub record IsShown (name shown : List ℕ) : Type 0 where
+  pub utf8 : IsUtf8 name → shown ≡ name
+  pub other : ¬ IsUtf8 name → shown ≡ shown_name name
+
+-- names as lines show them
 pub record AreShown (names shown : List (List ℕ)) : Type 0 where
   pub count : length shown ≡ length names
-  pub each : (at : ℕ) → at < length names → IsUtf8 (slice_index_or names at [])
-      → slice_index_or shown at [] ≡ slice_index_or names at []
+  pub each : (at : ℕ) → at < length names → IsShown (slice_index_or names at []) (slice_index_or shown at [])
 
 -- the fault of a run that this fault of a list refuses
 abbrev pub fault_of : PileFault → ProgramFault

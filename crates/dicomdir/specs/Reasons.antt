@@ -1,24 +1,29 @@
 -- Why a run is refused: the evidence that each fault has.
 use Rattle.std.specs.Prelude.{◌≡◌, ◌⊎◌, ℕ, Bool, true, List, Option, Some, string_bytes}
 use Rattle.dd_elem.specs.declared.device.Read.{Ghosts as ReadOf}
+use Rattle.dd_engine.specs.declared.merge_fault.MergeFault.{MergeFault}
+use Rattle.dd_engine.specs.declared.merge_fault.MergeFault.TheVariants as merging
 use Rattle.dd_file_set.specs.Made.{HasBytes}
 use Rattle.dd_file_set.specs.Reasons.{StandsDirectory}
 use Rattle.dd_file_set.specs.declared.refusal.ProgramFault.{ProgramFault}
 use Rattle.dd_file_set.specs.declared.refusal.ProgramFault.TheVariants.{Absent, BadName, BadStage, Create, Dir}
 use Rattle.dd_file_set.specs.declared.refusal.ProgramFault.TheVariants.{Folder, ListTooLarge, Memory, Own, Plan, SetId}
 use Rattle.dd_file_set.specs.declared.refusal.ProgramFault.TheVariants.{Strict, TooLong, Uid, Unread, Unsent}
+use Rattle.dd_file_set.specs.declared.refusal.Refusal.{Refusal}
+use Rattle.dd_file_set.specs.declared.refusal.Subject.TheVariants as subject
 use Rattle.dd_files.specs.Files.{Held}
 use Rattle.dd_files.specs.Reasons.{HasCounted, HasFailedReader}
 use Rattle.dd_line.specs.Requests.{folder_of, keeps_going}
 use Rattle.dd_line.specs.declared.request.Request.{Request}
 use Rattle.dd_line.specs.declared.request.Request.TheVariants.{Stage}
 use Rattle.dicomdir.specs.From.{from_in, looked_up}
+use Rattle.dicomdir.specs.Grounds.{HasSuch, IsTooLong}
 use Rattle.dicomdir.specs.ListedNames.{FailsAt, list_of, parts}
 
 -- ---- in the work
 
 -- The files have refused a call, a read of one of their readers has failed or a write to them, or the line is strict.
--- Other faults have no evidence here.
+-- What an engine finds has its grounds in what was read.
 abbrev pub IsDue : {R : Type 0} → ReadOf R → ℕ → ℕ → Bool → ProgramFault → Type 0
 IsDue reads refusals failures strict Absent = HasCounted refusals
 IsDue reads refusals failures strict Unread = HasFailedReader reads
@@ -42,6 +47,13 @@ IsOfEngine (Own fault) = Unit {0}
 IsOfEngine Memory = Unit {0}
 IsOfEngine fault = ⊥
 
+-- the refusal of file-sets for a fault of a merge
+abbrev pub set_refusal : MergeFault → Refusal
+set_refusal (merging.Dir at fault) = record { subject = subject.Source at; fault = Dir fault }
+set_refusal (merging.Own at fault) = record { subject = subject.Source at; fault = Own fault }
+set_refusal (merging.Plan fault) = record { subject = subject.General; fault = Plan fault }
+set_refusal merging.Memory = record { subject = subject.General; fault = Memory }
+
 -- ---- before the work
 
 -- this is so of the bytes of the list of names
@@ -57,11 +69,12 @@ abbrev pub StandsAlready : (List ℕ → Type 0) → Request → Option Held →
 StandsAlready may_be_taken (Stage x) files = may_be_taken (string_bytes x.pile)
 StandsAlready may_be_taken r files = StandsDirectory (looked_up (from_in r) (folder_of r)) files
 
--- the list of names could not be opened or read, is too long, or a name of it is bad; or an allocation was refused
+-- the list of names could not be opened or read, or has too many bytes or a bad name; or an allocation was refused
 abbrev pub IsDueToList : {R : Type 0} → ReadOf R → ℕ → Request → Option Held → ProgramFault → Type 0
 IsDueToList reads refusals r files Absent = HasCounted refusals
 IsDueToList reads refusals r files Unread = HasFailedReader reads
-IsDueToList reads refusals r files TooLong = Unit {0}
+IsDueToList reads refusals r files TooLong =
+    (path : List ℕ) × (list_of r ≡ Some path) × HasSuch path IsTooLong files
 IsDueToList reads refusals r files (BadName number) =
     IsOfList r (λ bytes. FailsAt (keeps_going r) (parts bytes) number) files
 IsDueToList reads refusals r files Memory = Unit {0}

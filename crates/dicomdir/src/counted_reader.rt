@@ -1,4 +1,5 @@
-ghost use Rattle.std.specs.Prelude.{◌≡◌, IfSome, false, true};
+ghost use Rattle.std.specs.Prelude.{◌≡◌, IfSome, Option, false, length, min, true};
+ghost use Rattle.dd_elem.specs.Device.{last_count};
 ghost use Rattle.dd_files.specs.Reasons.{HasCounted};
 
 use dd_elem::{Counts, Read};
@@ -62,9 +63,10 @@ impl<R: Read + Drop> Read for CountedReader<R> {
 
     ghost remaining = { λ s. R.remaining s.reader };
 
-    ghost Past = { R.Past };
+    ghost Past = { Option R.Past };
 
-    ghost has_given = { λ s past bytes. R.has_given s.reader past bytes };
+    ghost has_given = { λ s past bytes. (s.bytes ≡ min (length bytes) last_count)
+        × IfSome past (λ past. R.has_given s.reader past bytes) };
 
     /// Reads as the reader does, but also fails where a count is at its last value.
     fn read(&mut self, buf: &mut [u8]) -> io::Result<usize> {

@@ -1,12 +1,13 @@
 //! Files as sources.
 ghost use Rattle.std.proofs.Props.{props};
-ghost use Rattle.std.specs.Prelude.{◌≡◌, ℕ, IfSome, length, map, string_bytes, true, None, Option};
+ghost use Rattle.std.specs.Prelude.{◌≡◌, ℕ, IfSome, List, length, map, string_bytes, true, None, Option, Some};
 ghost use Rattle.std.specs.Borrow.{GName};
 ghost use Rattle.dd_engine.specs.Indexed.{IsNamed};
 ghost use Rattle.dd_engine.specs.declared.engine_fault.EngineFault.TheVariants as faults;
 ghost use Rattle.dd_files.specs.Files.{Held};
 ghost use Rattle.dd_files.specs.Reasons.{HasCounted, HasFailedReader};
-ghost use Rattle.dicomdir.specs.FileSupply.{contents_by, counts_at, is_one};
+ghost use Rattle.dd_layout.specs.declared.fault.PlanFault.{PlanFault};
+ghost use Rattle.dicomdir.specs.FileSupply.{IsThere, contents_by, counts_at, is_one};
 ghost use Rattle.dicomdir.specs.ListedNames.{AreRising};
 
 use crate::counted_reader::CountedReader;
@@ -34,7 +35,8 @@ pub(crate) struct FileSupply<'a, F: Files> {
 // By hand, so that its contract says what becomes of the files.
 impl<F: Files> Drop for FileSupply<'_, F> {
     fn drop(self)
-        ensures { self.exit.0.now ≡ self.entry.files.now }
+        ensures files { self.exit.0.now ≡ self.entry.files.now }
+        ensures counts { self.exit.1.1.0.now ≡ self.entry.counts.now }
     {
         let FileSupply {
             files: _files,
@@ -60,6 +62,7 @@ impl<'a, F: Files> FileSupply<'a, F> {
         requires rising { AreRising bad_names.now }
         requires none { failed.old ≡ None }
         ensures reference { result.files.ghost_name ≡ files.entry.ghost_name }
+        ensures counts_reference { result.counts.ghost_name ≡ counts.entry.ghost_name }
         ensures files { result.files.now ≡ files.old }
         ensures paths { result.paths.now ≡ paths.now }
         ensures counts { result.counts.now ≡ counts.old }
@@ -79,6 +82,7 @@ impl<'a, F: Files> FileSupply<'a, F> {
     /// its last value also refuses a source: that is as memory at its end.
     pub(crate) fn said(&self, fault: EngineFault) -> EngineFault
         ensures named { (sources : ℕ) → IsNamed sources fault → IsNamed sources result }
+        ensures plan { (plan : PlanFault) → result ≡ faults.Plan plan → fault ≡ result }
         ensures absent { (at : ℕ) → result ≡ faults.Absent at → HasCounted (F.refusals self.now.files.now) }
         ensures unread { (at : ℕ) → result ≡ faults.Unread at → HasFailedReader F.In.Read }
     {
@@ -104,8 +108,7 @@ impl<F: Files + Progress> Supply for FileSupply<'_, F> {
     ghost sources = { λ s. length s.counts.now };
 
     ghost contents = { λ s.
-        contents_by (F.held s.files.now) (map (λ path. string_bytes path) s.paths.now)
-        s.bad_names.now };
+        contents_by (F.held s.files.now) (map (λ path. string_bytes path) s.paths.now) };
 
     ghost refusals = { λ s at. (counts_at s.counts.now at).refusals };
 
@@ -115,9 +118,19 @@ impl<F: Files + Progress> Supply for FileSupply<'_, F> {
 
     ghost lent = { λ s at. (counts_at s.counts.now at).lent };
 
-    ghost Rest = { GName × Option Held };
+    ghost Rest = { GName × GName × Option Held × List (List ℕ) × List ℕ };
 
-    ghost rest = { λ s. (s.files.ghost_name, F.held s.files.now) };
+    ghost rest = { λ s. (
+      s.files.ghost_name,
+      s.counts.ghost_name,
+      F.held s.files.now,
+      map (λ path. string_bytes path) s.paths.now,
+      s.bad_names.now,
+    ) };
+
+    ghost is_there = { λ rest at. IsThere rest.2 rest.3 rest.4 at };
+
+    ghost given = { λ s at. Some (counts_at s.counts.now at).bytes };
 
     fn count(&self) -> usize {
         self.counts.len()

@@ -1,4 +1,4 @@
-ghost use Rattle.std.specs.Prelude.{◌≡◌, ◌≢◌, ◌≤◌, ◌↔◌, ◌⊎◌, ℕ, List, IfErr, IfOk, IsErr, IsOk, IsTrue, OnOk};
+ghost use Rattle.std.specs.Prelude.{◌≡◌, ◌≢◌, ◌<◌, ◌≤◌, ◌↔◌, ◌⊎◌, ℕ, All, List, IfErr, IfOk, IsErr, IsOk, IsTrue, OnOk};
 ghost use Rattle.std.specs.Prelude.{false, length, true};
 ghost use Rattle.dd_elem.specs.Device.{HasFailed};
 ghost use Rattle.dd_engine.specs.Indexed.{IsNamed, IsWithin};
@@ -6,9 +6,11 @@ ghost use Rattle.dd_engine.specs.Noting.{AreBelow, IsBelow};
 ghost use Rattle.dd_engine.specs.declared.engine_fault.EngineFault.TheVariants as engine;
 ghost use Rattle.dd_files.specs.Keeping.{IfSaid};
 ghost use Rattle.dd_files.specs.Reasons.{HasCounted, HasFailedReader};
+ghost use Rattle.dd_layout.specs.declared.fault.PlanFault.{PlanFault};
 ghost use Rattle.dd_line.specs.Line.{words_of};
 ghost use Rattle.dd_lines.specs.Text.{TakesText};
-ghost use Rattle.dicomdir.specs.Indexes.{DoneIndexes, Indexes, IsIndexStatus, has_failed, status_past};
+ghost use Rattle.dicomdir.specs.FileSupply.{bytes_read};
+ghost use Rattle.dicomdir.specs.Indexes.{CountsPicks, DoneIndexes, Indexes, IsIndexStatus, has_failed, status_past};
 ghost use Rattle.dd_file_set.specs.Left.{MakesDirectoryLast};
 ghost use Rattle.dicomdir.specs.ListedNames.{AreOfSources, HavePaths};
 ghost use Rattle.dicomdir.specs.Noted.{IsNotedIndex};
@@ -16,6 +18,7 @@ ghost use Rattle.dicomdir.specs.Prints.{PrintsIndex};
 ghost use Rattle.dd_file_set.specs.Refusal.{IsOfWork};
 ghost use Rattle.dicomdir.specs.Reasons.{IsDue, IsOfEngine};
 ghost use Rattle.dicomdir.specs.Said.{SaysNotes};
+ghost use Rattle.dicomdir.specs.Grounds.{GroundsOfIndex, HaveNoPlan, run_fault};
 
 use crate::dates::show_dates;
 use crate::file_supply::FileSupply;
@@ -50,6 +53,10 @@ pub(crate) fn run_index<F: Files + Progress + Hints, O: Write>(
     ensures refusal { IfErr result (IsOfWork (length sources.now)) }
     ensures due { IfErr result (λ refusal. IsDue F.In.Read (F.refusals files.new) (F.Write.failures files.new)
         making.entry.strict refusal.fault) }
+    ensures grounds { (names : List (List ℕ))
+        → HavePaths names (words_of sources.now) making.entry.bad_names.now
+        → IfErr result (λ refusal. GroundsOfIndex making.entry.keep_going making.entry.names.now.choice
+        making.entry.max_bytes names (F.held files.old) refusal.fault) }
     ensures failed { IfOk result (λ status. status ≡ 1 → HasFailed (O.failures out.old) (O.failures out.new)) }
     ensures status { IfOk result (IsIndexStatus making.entry.keep_going) }
     ensures dry { making.entry.dry_run ≡ true → F.held files.new ≡ F.held files.old }
@@ -86,6 +93,10 @@ fn index_sources<F: Files + Progress + Hints, O: Write>(
     ensures refusal { IfErr result (IsOfWork (length sources.now)) }
     ensures due { IfErr result (λ refusal. IsDue F.In.Read (F.refusals files.new) (F.Write.failures files.new)
         making.entry.strict refusal.fault) }
+    ensures grounds { (names : List (List ℕ))
+        → HavePaths names (words_of sources.now) making.entry.bad_names.now
+        → IfErr result (λ refusal. GroundsOfIndex making.entry.keep_going making.entry.names.now.choice
+        making.entry.max_bytes names (F.held files.old) refusal.fault) }
     ensures failed { IfOk result (λ status. status ≡ 1 → HasFailed (O.failures out.old) (O.failures out.new)) }
     ensures status { IfOk result (IsIndexStatus making.entry.keep_going) }
     ensures dry { making.entry.dry_run ≡ true → F.held files.new ≡ F.held files.old }
@@ -181,12 +192,14 @@ pub(crate) fn tell_noted<O: Write>(
     tell_names(&notes.names, style, out)
 }
 
-fn bytes_of(picks: &[usize], counts: &[SourceCounts]) -> u64 {
+/// Gives the bytes that were read of the sources of these numbers, up to `u64::MAX`.
+fn bytes_of(picks: &[usize], counts: &[SourceCounts]) -> u64
+    requires { All (λ at. at < length counts.now) picks.now }
+    ensures { result ≡ bytes_read counts.now picks.now }
+{
     let mut bytes = 0u64;
     for at in picks {
-        if let Some(counts) = counts.get(*at) {
-            bytes = bytes.saturating_add(counts.bytes);
-        }
+        bytes = bytes.saturating_add(counts[*at].bytes);
     }
     bytes
 }
@@ -208,7 +221,16 @@ fn index_files<F: Files + Progress>(
     ensures within { IfOk result (λ past. IsWithin (length sources.now) past.noted.indexed) }
     ensures below { IfOk result (λ past.
         AreBelow (λ at. at) (length sources.now) past.noted.notes.left_out.items) }
+    ensures counted { length counts.new ≡ length counts.old }
+    ensures bytes { (names : List (List ℕ))
+        → HavePaths names (words_of sources.now) making.entry.bad_names.now
+        → IfOk result (λ past. CountsPicks names counts.new past.noted.indexed.picks.items (F.held files.old)) }
     ensures kept { F.held files.new ≡ F.held files.old }
+    ensures grounds { (names : List (List ℕ))
+        → HavePaths names (words_of sources.now) making.entry.bad_names.now
+        → IfErr result (λ noted. (fault : PlanFault) → noted.fault ≡ engine.Plan fault
+        → HaveNoPlan making.entry.keep_going making.entry.names.now.choice making.entry.max_bytes names
+        (F.held files.old) fault) }
     ensures absent { IfErr result (λ noted. (at : ℕ)
         → noted.fault ≡ engine.Absent at → HasCounted (F.refusals files.new)) }
     ensures unread { IfErr result (λ noted. (at : ℕ)
@@ -253,6 +275,7 @@ fn refuse<O: Write>(
     requires named { IsNamed (length sources.now) noted.now.fault }
     requires conflict { IsBelow (λ at. at) (length sources.now) noted.now.conflict }
     ensures refusal { IsOfWork (length sources.now) result }
+    ensures found { result.fault ≡ run_fault noted.now.fault }
     ensures fault { IsOfEngine result.fault
         ⊎ ((at : ℕ) × (noted.now.fault ≡ engine.Absent at) × (result.fault ≡ ProgramFault.Absent))
         ⊎ ((at : ℕ) × (noted.now.fault ≡ engine.Unread at) × (result.fault ≡ ProgramFault.Unread)) }

@@ -6,6 +6,7 @@ ghost use Rattle.dicomdir.specs.Inspecting.{ChecksSet, IsBrokenLine, ListsSet, c
 ghost use Rattle.dicomdir.specs.Inspecting.{style_by};
 ghost use Rattle.dd_file_set.specs.Refusal.{IsOfWork};
 ghost use Rattle.dicomdir.specs.Reasons.{IsDue};
+ghost use Rattle.dicomdir.specs.Grounds.{GroundsOfCheck, GroundsOfList};
 
 use crate::fault_json::print_broken_json;
 use crate::refusal::Words;
@@ -75,6 +76,8 @@ pub(crate) fn run_check<F: Files + Progress, O: Write>(
     ensures refusal { (paths : ℕ) → 0 < paths → IfErr result (IsOfWork paths) }
     ensures due { IfErr result (λ refusal. IsDue F.In.Read (F.refusals files.new) (F.Write.failures files.new)
         false refusal.fault) }
+    ensures grounds { IfErr result (λ refusal.
+        GroundsOfCheck check.entry.folder.now (F.held files.old) refusal.fault) }
     ensures failed { IfOk result (λ status. status ≡ 1 → HasFailed (O.failures out.old) (O.failures out.new)) }
     ensures status { IfOk result (λ status. (status ≤ 1) ⊎ (status ≡ 3)) }
     ensures checks { IfOk result (λ status. ChecksSet F.In.Read check.entry.folder.now (F.held files.old)
@@ -131,6 +134,8 @@ pub(crate) fn run_list<F: Files, O: Write>(
     ensures refusal { (paths : ℕ) → 0 < paths → IfErr result (IsOfWork paths) }
     ensures due { IfErr result (λ refusal. IsDue F.In.Read (F.refusals files.new) (F.Write.failures files.new)
         false refusal.fault) }
+    ensures grounds { IfErr result (λ refusal.
+        GroundsOfList listing.entry.folder.now (F.held files.old) refusal.fault) }
     ensures failed { IfOk result (λ status. status ≡ 1 → HasFailed (O.failures out.old) (O.failures out.new)) }
     ensures status { IfOk result (λ status. status ≤ 1) }
     ensures lists { IfOk result (λ status. ListsSet O.Write listing.entry.style listing.entry.form

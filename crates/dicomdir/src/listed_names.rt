@@ -1,6 +1,7 @@
 ghost use Rattle.std.specs.Prelude.{◌≡◌, ◌≢◌, ◌<◌, ◌≤◌, ◌+◌, ◌++◌, ℕ, List, [], ◌∷◌, None, Err, length, map};
 ghost use Rattle.std.specs.Prelude.{IfOk, IfSome, IsOk, OnOk, false, string_bytes, true};
 ghost use Rattle.dicomdir.specs.ListedNames.{AreNames, FailsAt, HavePaths, IsListOf, IsListed, IsName, parts};
+ghost use Rattle.dicomdir.specs.ListedNames.{shown_name};
 ghost use Rattle.dicomdir.specs.declared.listed_names.NamesFault.TheVariants as faults;
 
 use dd_elem::Memory;
@@ -104,7 +105,9 @@ fn add_name(
 }
 
 /// Writes `?` for each byte outside 20H to 7EH.
-pub(crate) fn masked(alloc: Global, name: &[u8]) -> Result<String, Memory> {
+pub(crate) fn masked(alloc: Global, name: &[u8]) -> Result<String, Memory>
+    ensures { IfOk result (λ shown. string_bytes shown ≡ shown_name name.now) }
+{
     let mut shown = String::with_capacity(alloc, name.len())?;
     for byte in name {
         let is_shown = (b' '..=b'~').contains(byte);

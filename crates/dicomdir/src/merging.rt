@@ -14,8 +14,9 @@ ghost use Rattle.dicomdir.specs.Merges.{DoneMerges};
 ghost use Rattle.dicomdir.specs.Noted.{IsNoted, NamesBelow};
 ghost use Rattle.dicomdir.specs.Prints.{PrintsMerge, last_line};
 ghost use Rattle.dd_file_set.specs.Refusal.{IsOfWork, IsStrict};
-ghost use Rattle.dicomdir.specs.Reasons.{IsDue, IsOfEngine};
+ghost use Rattle.dicomdir.specs.Reasons.{IsDue, IsOfEngine, set_refusal};
 ghost use Rattle.dicomdir.specs.Said.{SaysSetNotes};
+ghost use Rattle.dicomdir.specs.Grounds.{GroundsOfSets, NeedsNoGrounds};
 
 use crate::dates::show_dates;
 use crate::making::{Ending, Making, make_file_set, tell_counts};
@@ -44,6 +45,8 @@ pub(crate) fn run_merge<F: Files + Progress + Hints, O: Write>(
     ensures refusal { IfErr result (IsOfWork (length sets.now)) }
     ensures due { IfErr result (λ refusal. IsDue F.In.Read (F.refusals files.new) (F.Write.failures files.new)
         making.entry.strict refusal.fault) }
+    ensures grounds { IfErr result (λ refusal. GroundsOfSets making.entry.names.now.choice making.entry.max_bytes
+        [] (words_of sets.now) (F.held files.old) refusal.subject refusal.fault) }
     ensures failed { IfOk result (λ status. status ≡ 1 → HasFailed (O.failures out.old) (O.failures out.new)) }
     ensures status { IfOk result (λ status. status ≤ 1) }
     ensures dry { making.entry.dry_run ≡ true → F.held files.new ≡ F.held files.old }
@@ -76,6 +79,8 @@ fn merge_sets<F: Files + Progress + Hints, O: Write>(
     ensures refusal { IfErr result (IsOfWork (length sets.now)) }
     ensures due { IfErr result (λ refusal. IsDue F.In.Read (F.refusals files.new) (F.Write.failures files.new)
         making.entry.strict refusal.fault) }
+    ensures grounds { IfErr result (λ refusal. GroundsOfSets making.entry.names.now.choice making.entry.max_bytes
+        [] (words_of sets.now) (F.held files.old) refusal.subject refusal.fault) }
     ensures failed { IfOk result (λ status. status ≡ 1 → HasFailed (O.failures out.old) (O.failures out.new)) }
     ensures status { IfOk result (λ status. status ≤ 1) }
     ensures dry { making.entry.dry_run ≡ true → F.held files.new ≡ F.held files.old }
@@ -115,6 +120,9 @@ pub(crate) fn run_withdraw<F: Files + Progress + Hints, O: Write>(
     ensures refusal { (paths : ℕ) → 0 < paths → IfErr result (IsOfWork paths) }
     ensures due { IfErr result (λ refusal. IsDue F.In.Read (F.refusals files.new) (F.Write.failures files.new)
         making.entry.strict refusal.fault) }
+    ensures grounds { IfErr result (λ refusal. GroundsOfSets making.entry.names.now.choice making.entry.max_bytes
+        making.entry.names.now.withdrawn.items (string_bytes set.now ∷ []) (F.held files.old)
+        refusal.subject refusal.fault) }
     ensures failed { IfOk result (λ status. status ≡ 1 → HasFailed (O.failures out.old) (O.failures out.new)) }
     ensures status { IfOk result (λ status. status ≤ 1) }
     ensures dry { making.entry.dry_run ≡ true → F.held files.new ≡ F.held files.old }
@@ -150,6 +158,8 @@ fn withdraw_of<F: Files + Progress + Hints, O: Write>(
     ensures refusal { IfErr result (IsOfWork 1) }
     ensures due { IfErr result (λ refusal. IsDue F.In.Read (F.refusals files.new) (F.Write.failures files.new)
         making.entry.strict refusal.fault) }
+    ensures grounds { IfErr result (λ refusal. GroundsOfSets making.entry.names.now.choice making.entry.max_bytes
+        making.entry.names.now.withdrawn.items (words_of sets.now) (F.held files.old) refusal.subject refusal.fault) }
     ensures failed { IfOk result (λ status. status ≡ 1 → HasFailed (O.failures out.old) (O.failures out.new)) }
     ensures status { IfOk result (λ status. status ≤ 1) }
     ensures dry { making.entry.dry_run ≡ true → F.held files.new ≡ F.held files.old }
@@ -198,6 +208,7 @@ fn write_noted<'a, F: Files + Progress + Hints, O: Write>(
     ensures refusal { IfErr result (IsOfWork (length sets.now.folders.now)) }
     ensures due { IfErr result (λ refusal. IsDue F.In.Read (F.refusals files.new) (F.Write.failures files.new)
         making.entry.strict refusal.fault) }
+    ensures grounds { IfErr result (λ refusal. NeedsNoGrounds refusal.fault) }
     ensures failed { IfOk result (λ status. status ≡ 1 → HasFailed (O.failures out.old) (O.failures out.new)) }
     ensures status { IfOk result (λ status. status ≤ 1) }
     ensures dry { making.entry.dry_run ≡ true → F.held files.new ≡ F.held files.old }
@@ -292,6 +303,7 @@ fn refuse<O: Write>(
     requires conflict { IsBelow (λ pick. pick.set) (length folders.now) noted.now.conflict }
     ensures work { IsOfWork (length folders.now) result }
     ensures engine { IsOfEngine result.fault }
+    ensures refusal { result ≡ set_refusal noted.now.fault }
 {
     match noted.fault {
         MergeFault::Memory => Refusal::memory(),

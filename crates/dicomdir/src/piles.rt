@@ -1,10 +1,15 @@
 //! What the lists of piles say.
-ghost use Rattle.std.specs.Prelude.{◌≡◌, ◌<◌, ◌+◌, ◌∷◌, ◌++◌, ℕ, Bool, List, [], IfErr, IfOk, IsOk, length};
-ghost use Rattle.std.specs.Prelude.{string_bytes};
+ghost use Rattle.std.specs.Prelude.{◌≡◌, ◌<◌, ◌+◌, ◌∷◌, ◌++◌, ℕ, Bool, List, [], IfErr, IfOk, IsOk, Option};
+ghost use Rattle.std.specs.Prelude.{length, slice_index_or, string_bytes};
 ghost use Rattle.std.specs.Str.{IsUtf8};
+ghost use Rattle.dd_engine.specs.declared.choice.Choice.{Choice};
+ghost use Rattle.dd_files.specs.Files.{Held};
 ghost use Rattle.dd_line.specs.Line.{words_of};
-ghost use Rattle.dd_staged.specs.Refusals.{sources_view};
+ghost use Rattle.dd_pile.specs.Lists.{IfList};
+ghost use Rattle.dd_staged.specs.Refusals.{IsBadStage, sources_view};
 ghost use Rattle.dd_staged.specs.Sources.{Source, source_view};
+ghost use Rattle.dicomdir.specs.ListedNames.{shown_name};
+ghost use Rattle.dicomdir.specs.Grounds.{GroundsOfPiles, IsTooLong};
 ghost use Rattle.dicomdir.specs.Publishes.{HasPiled, IsPiled, fault_of};
 ghost use Rattle.dd_file_set.specs.Refusal.{IsOfWork};
 ghost use Rattle.dicomdir.specs.Reasons.{IsDue};
@@ -47,6 +52,8 @@ pub(crate) fn read_piles<F: Files + Progress>(
     ensures refusal { IfErr result (IsOfWork (length piles.now)) }
     ensures due { (strict : Bool) → IfErr result (λ refusal.
         IsDue F.In.Read (F.refusals files.new) (F.Write.failures files.new) strict refusal.fault) }
+    ensures grounds { (choice : Choice) → (bytes : ℕ) → IfErr result (λ refusal. GroundsOfPiles choice bytes
+        (words_of piles.now) (F.held files.old) refusal.subject refusal.fault) }
     ensures piled { IfOk result (HasPiled (words_of piles.now) (F.held files.old)) }
     ensures kept { F.held files.new ≡ F.held files.old }
 {
@@ -100,7 +107,8 @@ fn add_source(
 
 /// Gives the name as lines show it: itself where it is UTF-8.
 fn shown_name(alloc: Global, name: &[u8]) -> Result<String, Memory>
-    ensures { IfOk result (λ shown. IsUtf8 name.now → string_bytes shown ≡ name.now) }
+    ensures utf8 { IfOk result (λ shown. IsUtf8 name.now → string_bytes shown ≡ name.now) }
+    ensures other { IfOk result (λ shown. ¬ IsUtf8 name.now → string_bytes shown ≡ shown_name name.now) }
 {
     match str::from_utf8(name) {
         Ok(text) => Ok(String::from_str(alloc, text)?),
@@ -112,6 +120,11 @@ fn shown_name(alloc: Global, name: &[u8]) -> Result<String, Memory>
 fn refusal_of(fault: PileFault, at: usize) -> Refusal
     ensures work { (paths : ℕ) → at < paths → IsOfWork paths result }
     ensures fault { result.fault ≡ fault_of fault }
+    ensures grounds { (choice : Choice) → (bytes : ℕ) → (piles : List (List ℕ)) → (files : Option Held)
+        → ((item : ℕ) → fault ≡ PileFault.BadStage item
+        → IfList (slice_index_or piles at []) (IsBadStage item) files)
+        → (fault ≡ PileFault.TooLong → IfList (slice_index_or piles at []) IsTooLong files)
+        → GroundsOfPiles choice bytes piles files result.subject result.fault }
 {
     let list = Subject::PileFile(at, PathText::of(&STAGED));
     match fault {

@@ -13,10 +13,12 @@ ghost use Rattle.dicomdir.specs.Last.{MakesLastLine, MakesLastOf};
 ghost use Rattle.dicomdir.specs.Lines.{IndexSays, IndexesLine, IsIndex, IsMerge, IsWithdraw, MergeSays, MergesLine};
 ghost use Rattle.dicomdir.specs.Lines.{IsPublish, IsStage, PublishSays, PublishesLine, StagesLine, WithdrawSays};
 ghost use Rattle.dicomdir.specs.Lines.{WithdrawsLine};
+ghost use Rattle.dicomdir.specs.Grounds.{GroundsOf};
 ghost use Rattle.dicomdir.specs.ListedNames.{AreOfSources, HavePaths};
 ghost use Rattle.dicomdir.specs.Done.{IsDone};
 ghost use Rattle.dicomdir.specs.Names.{choice_by};
 ghost use Rattle.dd_file_set.specs.Refusal.{IsOfWork};
+ghost use Rattle.dicomdir.specs.Faults.{is_quiet};
 ghost use Rattle.dicomdir.specs.Reasons.{IsDue};
 ghost use Rattle.dicomdir.specs.Refused.{IsRefused, IsRefusedLine, refuses_notes};
 ghost use Rattle.dicomdir.specs.Words.{IsRequestStatus, IsStatusOf, IsTaken, MakesOf, MakesRequested, SaysOf};
@@ -175,7 +177,7 @@ pub fn run<F: Files + Progress + Hints, O: Write, E: Write>(
     // concerns.
     ensures refused { result ≡ 1 → IsTaken words.items → HasFailed (O.failures out.old) (O.failures out.new)
         ⊎ IsRefusedLine F.In.Read E.Write (line_of words.items) (F.refusals files.new) (F.Write.failures files.new)
-        (F.is_taken files.old) (F.held files.old) err.old err.new }
+        (F.is_taken files.old) (F.held files.old) (F.held files.new) err.old err.new }
     ensures done { result ≡ 0 → err.new ≡ err.old }
 {
     match read_request(alloc, words.as_slice()) {
@@ -199,7 +201,7 @@ fn run_request<F: Files + Progress + Hints, O: Write, E: Write>(
         → (1 ≤ result) × (files.new ≡ files.old) × (out.new ≡ out.old) }
     ensures refused { result ≡ 1 → HasFailed (O.failures out.old) (O.failures out.new)
         ⊎ IsRefused F.In.Read E.Write request.now (F.refusals files.new) (F.Write.failures files.new)
-        (F.is_taken files.old) (F.held files.old) err.old err.new }
+        (F.is_taken files.old) (F.held files.old) (F.held files.new) err.old err.new }
     ensures done { result ≡ 0 → err.new ≡ err.old }
     ensures kept { OnlyReads (verb_of request.now) → F.held files.new ≡ F.held files.old }
     ensures dry { is_dry request.now ≡ true → F.held files.new ≡ F.held files.old }
@@ -245,10 +247,12 @@ fn run_named<F: Files + Progress + Hints, O: Write, E: Write>(
     out: &mut O,
     err: &mut E,
 ) -> u8
+    requires chooses { work.names.now.choice ≡ choice_by (id_of work.request.now) (uid_of work.request.now) }
+    requires withdraws { work.names.now.withdrawn.items ≡ words_of (instances_of work.request.now) }
     ensures status { IsStatusOf work.entry.request.now result }
     ensures refused { result ≡ 1 → HasFailed (O.failures out.old) (O.failures out.new)
         ⊎ IsRefused F.In.Read E.Write work.entry.request.now (F.refusals files.new) (F.Write.failures files.new)
-        (F.is_taken files.old) (F.held files.old) err.old err.new }
+        (F.is_taken files.old) (F.held files.old) (F.held files.new) err.old err.new }
     ensures done { result ≡ 0 → err.new ≡ err.old }
     ensures kept { OnlyReads (verb_of work.entry.request.now)
         → F.held files.new ≡ F.held files.old }
@@ -289,6 +293,7 @@ fn run_named<F: Files + Progress + Hints, O: Write, E: Write>(
 }
 
 fn silence_quiet<F: Files + Progress>(request: &Request, files: &mut F)
+    ensures quiet { is_quiet request.now ≡ true → F.is_silent files.new }
     ensures kept { F.held files.new ≡ F.held files.old }
     ensures unrefused { F.refusals files.new ≡ F.refusals files.old }
 {
@@ -308,9 +313,15 @@ fn run_verb<F: Files + Progress + Hints, O: Write>(
 ) -> Result<u8, Refusal>
     requires least { length (read_of work.request.now) ≤ length sources.now }
     requires named { AreOfSources (words_of sources.now) work.bad_names.now }
+    requires quiet { is_quiet work.request.now ≡ true → F.is_silent files.old }
     ensures refusal { IfErr result (IsOfWork (length sources.now)) }
     ensures due { IfErr result (λ refusal. IsDue F.In.Read (F.refusals files.new) (F.Write.failures files.new)
         (refuses_notes work.entry.request.now) refusal.fault) }
+    ensures grounds { (names : List (List ℕ))
+        → HavePaths names (words_of sources.now) work.entry.bad_names.now
+        → (keeps_going work.entry.request.now ≡ false → work.entry.bad_names.now ≡ [])
+        → IfErr result (GroundsOf work.entry.request.now work.entry.names.now.choice
+        work.entry.names.now.withdrawn.items names (F.held files.old) (F.held files.new)) }
     ensures failed { IfOk result (λ status. status ≡ 1 → HasFailed (O.failures out.old) (O.failures out.new)) }
     ensures status { IfOk result (λ status. IsStatusOf work.entry.request.now status) }
 

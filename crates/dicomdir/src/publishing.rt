@@ -1,18 +1,22 @@
 //! The command `publish`: makes a file-set of piles.
-ghost use Rattle.std.specs.Prelude.{◌≡◌, ◌<◌, ◌≤◌, ℕ, All, List, IfErr, IfOk, Ok, false, length, true};
+ghost use Rattle.std.specs.Prelude.{◌≡◌, ◌<◌, ◌≤◌, ℕ, All, List, Err, IfErr, IfOk, Ok, Option, false, length, true};
 ghost use Rattle.dd_elem.specs.Device.{HasFailed};
 ghost use Rattle.dd_engine.specs.Found.{HasFound};
-ghost use Rattle.dd_engine.specs.Indexed.{IsWithin};
+ghost use Rattle.dd_engine.specs.Indexed.{Indexes, IsWithin};
 ghost use Rattle.dd_engine.specs.IndexNotes.{NotesIndex};
 ghost use Rattle.dd_engine.specs.Indexing.{Answer};
 ghost use Rattle.dd_engine.specs.Noting.{AreBelow, IsBelow};
+ghost use Rattle.dd_engine.specs.declared.choice.Choice.{Choice};
+ghost use Rattle.dd_files.specs.Files.{Held};
 ghost use Rattle.dd_files.specs.Keeping.{IfSaid};
+ghost use Rattle.dd_layout.specs.declared.fault.PlanFault.{PlanFault};
 ghost use Rattle.dd_line.specs.Line.{words_of};
 ghost use Rattle.dicomdir.specs.Indexes.{limits_of};
 ghost use Rattle.dd_file_set.specs.Left.{MakesDirectoryLast};
 ghost use Rattle.dicomdir.specs.Publishes.{DonePublishes, PrintsPublish, placed_bytes};
 ghost use Rattle.dd_file_set.specs.Refusal.{IsOfWork};
 ghost use Rattle.dicomdir.specs.Reasons.{IsDue, IsOfEngine};
+ghost use Rattle.dicomdir.specs.Grounds.{GroundsOfPiles, PilesHaveNoPlan};
 
 use crate::dates::show_dates;
 use crate::index::{is_noted, tell_noted};
@@ -39,6 +43,8 @@ pub(crate) fn run_publish<F: Files + Progress + Hints, O: Write>(
     ensures refusal { IfErr result (IsOfWork (length piles.now)) }
     ensures due { IfErr result (λ refusal. IsDue F.In.Read (F.refusals files.new) (F.Write.failures files.new)
         making.entry.strict refusal.fault) }
+    ensures grounds { IfErr result (λ refusal. GroundsOfPiles making.entry.names.now.choice making.entry.max_bytes
+        (words_of piles.now) (F.held files.old) refusal.subject refusal.fault) }
     ensures failed { IfOk result (λ status. status ≡ 1 → HasFailed (O.failures out.old) (O.failures out.new)) }
     ensures status { IfOk result (λ status. status ≤ 1) }
     ensures dry { making.entry.dry_run ≡ true → F.held files.new ≡ F.held files.old }
@@ -71,6 +77,8 @@ fn publish_piles<F: Files + Progress + Hints, O: Write>(
     ensures refusal { IfErr result (IsOfWork (length piles.now)) }
     ensures due { IfErr result (λ refusal. IsDue F.In.Read (F.refusals files.new) (F.Write.failures files.new)
         making.entry.strict refusal.fault) }
+    ensures grounds { IfErr result (λ refusal. GroundsOfPiles making.entry.names.now.choice making.entry.max_bytes
+        (words_of piles.now) (F.held files.old) refusal.subject refusal.fault) }
     ensures failed { IfOk result (λ status. status ≡ 1 → HasFailed (O.failures out.old) (O.failures out.new)) }
     ensures status { IfOk result (λ status. status ≤ 1) }
     ensures dry { making.entry.dry_run ≡ true → F.held files.new ≡ F.held files.old }
@@ -130,6 +138,9 @@ fn past_of(
         → IfOk result (λ past. AreBelow (λ at. at) (length answers) past.noted.notes.left_out.items) }
     ensures conflict { (answers : List Answer) → HasFound answers found
         → IfErr result (λ noted. IsBelow (λ at. at) (length answers) noted.conflict) }
+    ensures refused { (answers : List Answer) → HasFound answers found
+        → IfErr result (λ noted. Indexes making.entry.names.now.choice (limits_of making.entry.max_bytes) answers
+        (Err noted.fault)) }
 {
     let limits = Limits::of_bytes(making.max_bytes);
     let Making { alloc, names, .. } = making;
@@ -163,6 +174,10 @@ fn refuse<O: Write>(
     requires { IsBelow (λ at. at) (length names.now) noted.now.conflict }
     ensures work { (paths : ℕ) → IsOfWork paths result }
     ensures engine { IsOfEngine result.fault }
+    ensures grounds { (choice : Choice) → (bytes : ℕ) → (piles : List (List ℕ)) → (files : Option Held)
+        → ((fault : PlanFault) → noted.now.fault ≡ EngineFault.Plan fault
+        → PilesHaveNoPlan choice bytes piles files fault)
+        → GroundsOfPiles choice bytes piles files result.subject result.fault }
 {
     match noted.fault {
         EngineFault::Plan(fault) => {

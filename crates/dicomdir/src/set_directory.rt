@@ -1,7 +1,12 @@
-ghost use Rattle.std.specs.Prelude.{◌≡◌, ◌<◌, ℕ, Bool, IfErr, IfOk, IsOk, length, map};
+ghost use Rattle.std.specs.Prelude.{◌≡◌, ◌<◌, ◌⊎◌, ℕ, Bool, IfErr, IfOk, IsOk, List, Option, length, map};
+ghost use Rattle.dd_dir.specs.ReadAnswers.{SaysMemory};
+ghost use Rattle.dd_dir.specs.Reading.{Refuses};
+ghost use Rattle.dd_engine.specs.declared.choice.Choice.{Choice};
+ghost use Rattle.dd_files.specs.Files.{Held};
 ghost use Rattle.dd_line.specs.Line.{words_of};
 ghost use Rattle.dicomdir.specs.Merges.{AreDirectories, HasDirectory};
 ghost use Rattle.dd_file_set.specs.Refusal.{IsOfWork};
+ghost use Rattle.dicomdir.specs.Grounds.{GroundsOfCheck, GroundsOfList, GroundsOfSets};
 ghost use Rattle.dicomdir.specs.Reasons.{IsDue, IsOfEngine};
 
 use dd_dir::DirFault;
@@ -17,6 +22,9 @@ pub(crate) fn read_directories<F: Files + Progress>(
     ensures refusal { IfErr result (IsOfWork (length folders.now)) }
     ensures due { (strict : Bool) → IfErr result (λ refusal.
         IsDue F.In.Read (F.refusals files.new) (F.Write.failures files.new) strict refusal.fault) }
+    ensures grounds { (choice : Choice) (bytes : ℕ) (given : List (List ℕ))
+        → IfErr result (λ refusal. GroundsOfSets choice bytes given (words_of folders.now) (F.held files.old)
+        refusal.subject refusal.fault) }
     ensures all { IfOk result (λ all. length all.items ≡ length folders.now) }
     ensures read { IfOk result (λ all. AreDirectories (words_of folders.now)
         (map (λ bytes. bytes.items) all.items) (F.held files.old)) }
@@ -46,6 +54,10 @@ pub(crate) fn directory_bytes<F: Files>(
     ensures refusal { (paths : ℕ) → at < paths → IfErr result (IsOfWork paths) }
     ensures due { (strict : Bool) → IfErr result (λ refusal.
         IsDue F.In.Read (F.refusals files.new) (F.Write.failures files.new) strict refusal.fault) }
+    ensures grounds { IfErr result (λ refusal.
+        GroundsOfCheck folder.now (F.held files.old) refusal.fault) }
+    ensures long { IfErr result (λ refusal.
+        refusal.fault ≡ ProgramFault.TooLong → refusal.subject ≡ Subject.Source at) }
     ensures read { IfOk result (λ bytes.
         HasDirectory folder.now bytes.items (F.held files.old)) }
     ensures worked { IsOk result → F.refusals files.new ≡ F.refusals files.old }
@@ -67,6 +79,8 @@ pub(crate) fn directory_bytes<F: Files>(
 pub(crate) fn refusal_of(at: usize, fault: DirFault) -> Refusal
     ensures work { (paths : ℕ) → at < paths → IsOfWork paths result }
     ensures engine { IsOfEngine result.fault }
+    ensures grounds { (folder bytes : List ℕ) (held : Option Held) → HasDirectory folder bytes held
+        → SaysMemory fault ⊎ Refuses bytes fault → GroundsOfList folder held result.fault }
 {
     if fault.is_want_of_memory() {
         Refusal::memory()

@@ -1,4 +1,5 @@
-ghost use Rattle.std.specs.Prelude.{◌≡◌, ◌≤◌, ◌++◌, ◌⊎◌, ℕ, [], IfErr, IfOk, IsOk, false, length, option_map, string_bytes};
+ghost use Rattle.std.specs.Prelude.{◌≡◌, ◌≤◌, ◌++◌, ◌⊎◌, ℕ, [], IfErr, IfOk, IsOk, Some, false, length};
+ghost use Rattle.std.specs.Prelude.{option_map, string_bytes};
 ghost use Rattle.std.specs.Option.{option_map_or};
 ghost use Rattle.dd_line.specs.Line.{OnlyReads, words_of};
 ghost use Rattle.dd_line.specs.Requests.{keeps_going, read_of, verb_of};
@@ -154,7 +155,7 @@ fn listed_sources<F: Files>(
 /// than 4,294,967,295 bytes.
 fn list_bytes<F: Files>(alloc: Global, path: &str, files: &mut F) -> Result<Vec<u8>, Refusal>
     ensures refusal { (paths : ℕ) → IfErr result (IsOfWork paths) }
-    ensures due { (r : Request) → IfErr result (λ refusal.
+    ensures due { (r : Request) → list_of r ≡ Some path.now → IfErr result (λ refusal.
         IsDueToList F.In.Read (F.refusals files.new) r (F.held files.old) refusal.fault) }
     ensures read { IfOk result (λ bytes. HasBytes path.now bytes.items (F.held files.old)) }
     ensures kept { F.held files.new ≡ F.held files.old }

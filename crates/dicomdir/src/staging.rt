@@ -1,6 +1,6 @@
 //! The command `stage`: makes a pile of sources.
-ghost use Rattle.std.specs.Prelude.{◌≡◌, ◌<◌, ◌≤◌, ◌⊎◌, ℕ, List, IfErr, IfOk, IsErr, IsOk, OnOk, false, length, map};
-ghost use Rattle.std.specs.Prelude.{string_bytes};
+ghost use Rattle.std.specs.Prelude.{◌≡◌, ◌<◌, ◌≤◌, ◌⊎◌, ℕ, List, Err, IfErr, IfOk, IsErr, IsOk, OnOk, false, length};
+ghost use Rattle.std.specs.Prelude.{map, string_bytes};
 ghost use Rattle.dd_elem.specs.Device.{HasFailed};
 ghost use Rattle.dd_files.specs.Keeping.{IfSaid};
 ghost use Rattle.dd_line.specs.Line.{words_of};
@@ -12,6 +12,7 @@ ghost use Rattle.dicomdir.specs.Last.{StagesListLast};
 ghost use Rattle.dd_file_set.specs.Refusal.{IsOfWork};
 ghost use Rattle.dicomdir.specs.Reasons.{IsDue};
 ghost use Rattle.dicomdir.specs.Stages.{MakesNamed, Stages, fault_of, staged_text, staged_words};
+ghost use Rattle.dicomdir.specs.Grounds.{GroundsOfStage, HasNoList};
 
 use crate::inspecting::style_for;
 use crate::line_paths::looked_up;
@@ -40,6 +41,8 @@ pub(crate) fn run_stage<F: Files + Progress, O: Write>(
     ensures refusal { IfErr result (IsOfWork (length names.now)) }
     ensures due { IfErr result (λ refusal. IsDue F.In.Read (F.refusals files.new) (F.Write.failures files.new)
         false refusal.fault) }
+    ensures grounds { IfErr result (λ refusal. GroundsOfStage (from_text stage.now.from) (string_bytes stage.now.pile)
+        (words_of names.now) (F.held files.old) (F.held files.new) refusal.fault) }
     ensures failed { IfOk result (λ status. status ≡ 1 → HasFailed (O.failures out.old) (O.failures out.new)) }
     ensures status { IfOk result (λ status. status ≤ 1) }
     ensures last { IfSaid (StagesListLast (string_bytes stage.now.pile)) (F.held files.old) (F.held files.new) }
@@ -66,6 +69,8 @@ fn stage_named<F: Files + Progress>(
     ensures last { IfSaid (StagesListLast (string_bytes stage.now.pile)) (F.held files.old) (F.held files.new) }
     ensures made { IfOk result (λ sum. MakesNamed (from_text stage.now.from)
         (string_bytes stage.now.pile) (words_of names.now) sum (F.held files.old) (F.held files.new)) }
+    ensures large { result ≡ Err StageRefusal.ListTooLarge → HasNoList (from_text stage.now.from)
+        (string_bytes stage.now.pile) (words_of names.now) (F.held files.old) (F.held files.new) }
 {
     let pile = stage.pile.as_str();
     match &stage.from {
@@ -106,6 +111,9 @@ fn stage_at<F: Files + Progress>(
     ensures made { (from : List ℕ) → words_of paths.now ≡ map (looked_up from) (words_of names.now)
         → IfOk result (λ sum. MakesNamed from pile.now (words_of names.now) sum
         (F.held files.old) (F.held files.new)) }
+    ensures large { (from : List ℕ) → words_of paths.now ≡ map (looked_up from) (words_of names.now)
+        → result ≡ Err StageRefusal.ListTooLarge
+        → HasNoList from pile.now (words_of names.now) (F.held files.old) (F.held files.new) }
 {
     let sources = sources_at(alloc, paths, names)?;
     stage_sources(alloc, pile, &sources, files)

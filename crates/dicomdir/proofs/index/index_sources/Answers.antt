@@ -1,9 +1,11 @@
 -- What was made is of the answer of the engine, whose sources are the files as they were.
-use Rattle.std.proofs.Common.{refl, rules}
+use Rattle.std.proofs.Common.{◌≡◌, ◌∙◌, refl, rules, sym}
 use Rattle.std.specs.Prelude.{IsOk}
 use Rattle.dd_line.specs.Line.{words_of}
+use Rattle.dicomdir.proofs.IndexGrounds.{engine_grounds}
 use Rattle.dicomdir.proofs.PastFailures.{at_most_one, done_index, index_status}
-use Rattle.dicomdir.proofs.PrintedLines.{index_prints, unnoted}
+use Rattle.dicomdir.proofs.CountedFiles.{take_first}
+use Rattle.dicomdir.proofs.PrintedLines.{images_counted, index_prints, unnoted}
 use Rattle.dicomdir.proofs.SaidLines.{on_ok_gives}
 use Rattle.dicomdir.specs.Noted.{IsNotedIndex}
 use Rattle.dicomdir.proofs.index.index_sources.Goals as goal
@@ -59,11 +61,27 @@ returns-then-making-clause-printed g c = λ names have.
     let noted = c.in-Ok.past.noted in
     let ok : IsOk c.tell_noted.result = search rules in
     let planned = c.tell_plan_of_images-status in
+    let read : c.deref-then-making.result.now ≡ c.index_files-answer.new.counts =
+    c.deref-then-making.ensures.value ∙ take_first c.in_ok-counts.counts.len c.index_files-answer.new.counts _
+    (sym c.deref_mut.ensures.len ∙ sym c.index_files-answer.ensures.counted) in
     rw (c.status_past.ensures, c.deref-then-making-2.ensures.value) (index_prints g.O.Write making.style
     making.dry_run making.strict making.keep_going making.names.now.choice making.max_bytes names
     (words_of c.args.sources.now) making.bad_names.now _ noted c.args.out.now c.tell_noted.new.out
     planned.new.out _ planned.result have (rw c.begin_step.ensures.kept at c.in-Ok.ensures.answers names have)
     (on_ok_gives c.tell_noted.result ok c.tell_noted.ensures.told)
     (unnoted making.strict c.is_noted.result (IsNotedIndex noted) c.in_ok-refuse_noted.ensures.refuses
-    c.is_noted.ensures) (rw c.if-making.true (c.bytes_of-images.result, refl)) planned.ensures.done
+    c.is_noted.ensures) (rw c.if-making.true (
+      c.bytes_of-images.result,
+      images_counted (g.F.Files.held c.args.files.now) names c.index_files-answer.new.counts noted.indexed.picks.items
+          c.bytes_of-images.result
+          (rw (read, c.deref.ensures.value) at c.bytes_of-images.ensures)
+          (rw c.begin_step.ensures.kept at c.in-Ok.ensures.bytes names have),
+      refl,
+    )) planned.ensures.done
     (at_most_one planned.result planned.ensures.status))
+
+pub returns-in-Err-clause-grounds : goal.returns-in-Err-clause-grounds
+returns-in-Err-clause-grounds g c = λ names have.
+    let making = c.args.making in
+    rw c.refuse.ensures.found (engine_grounds making.keep_going making.names.now.choice making.max_bytes names _
+    c.in-Err.fault.fault (rw c.begin_step.ensures.kept at c.in-Err.ensures.grounds names have))

@@ -44,3 +44,8 @@ pub returns-in_err-bytes-clause-due : goal.returns-in_err-bytes-clause-due
 returns-in_err-bytes-clause-due g c =
     let p = err_from_is_err_and c.from_residual.result c.from_residual.ensures.1 in
     rw (p.1, p.2) (c.in_err-bytes.ensures.due false)
+
+pub returns-in_err-bytes-clause-grounds : goal.returns-in_err-bytes-clause-grounds
+returns-in_err-bytes-clause-grounds g c =
+    let p = err_from_is_err_and c.from_residual.result c.from_residual.ensures.1 in
+    rw (p.1, p.2) c.in_err-bytes.ensures.grounds

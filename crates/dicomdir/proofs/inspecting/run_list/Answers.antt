@@ -2,6 +2,7 @@
 use Rattle.std.proofs.Common.{false}
 use Rattle.std.proofs.lemmas.Result.{err_from_is_err_and}
 use Rattle.dicomdir.proofs.Due.{engine_due}
+use Rattle.dicomdir.proofs.SetsGrounds.{list_grounds}
 use Rattle.dicomdir.proofs.inspecting.run_list.Goals as goal
 
 pub returns-in_err-bytes-clause-due : goal.returns-in_err-bytes-clause-due
@@ -12,3 +13,14 @@ returns-in_err-bytes-clause-due g c =
 pub returns-in-Err-clause-due : goal.returns-in-Err-clause-due
 returns-in-Err-clause-due g c =
     engine_due g.F.In.Read _ _ false c.refusal_of.result.fault c.refusal_of.ensures.engine
+
+pub returns-in_err-bytes-clause-grounds : goal.returns-in_err-bytes-clause-grounds
+returns-in_err-bytes-clause-grounds g c =
+    let p = err_from_is_err_and c.from_residual.result c.from_residual.ensures.1 in
+    rw (p.1, p.2) (list_grounds c.args.listing.folder.now (g.F.Files.held c.args.files.now)
+    c.in_err-bytes.field-0.0.fault c.in_err-bytes.ensures.grounds)
+
+pub returns-in-Err-clause-grounds : goal.returns-in-Err-clause-grounds
+returns-in-Err-clause-grounds g c =
+    c.refusal_of.ensures.grounds c.args.listing.folder.now c.in_ok-bytes.bytes.items _ c.in_ok-bytes.ensures.read
+    (rw c.deref.ensures.value at c.in-Err.ensures.refused)

@@ -8,4 +8,4 @@ returns-in_ok-push-in-None-2-clause-paths c = λ _ given have.
     pushed_bad given c.args.part.now c.args.all.now.paths.items c.push-in-None-2.new.self.items
     c.in_ok-shown-in-None.shown c.args.all.now.bad_names.items c.push-in-None.new.self.items
     (λ utf8. c.in-None.ensures.none refl (record { some = search rules; utf8 = utf8 }))
-    (search rules) (search rules) have
+    c.in_ok-shown-in-None.ensures (search rules) (search rules) have

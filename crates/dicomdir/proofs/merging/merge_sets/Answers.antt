@@ -3,6 +3,7 @@ use Rattle.std.proofs.Common.{◌≡◌, [], Err, map, rules, true}
 use Rattle.dd_line.specs.Line.{words_of}
 use Rattle.dicomdir.proofs.EngineMade.{done_merges}
 use Rattle.dicomdir.proofs.PrintedLines.{merge_prints}
+use Rattle.dicomdir.proofs.SetsGrounds.{engine_grounds, making_grounds}
 use Rattle.dicomdir.proofs.merging.merge_sets.Goals as goal
 
 pub returns-clause-made : goal.returns-clause-made
@@ -28,3 +29,21 @@ pub returns-in_err-directories-clause-due : goal.returns-in_err-directories-clau
 returns-in_err-directories-clause-due g c =
     let is : c.from_residual.result ≡ Err c.in_err-directories.field-0.0 = search rules in
     rw is (c.in_err-directories.ensures.due c.args.making.strict)
+
+pub returns-in_err-directories-clause-grounds : goal.returns-in_err-directories-clause-grounds
+returns-in_err-directories-clause-grounds g c =
+    let is : c.from_residual.result ≡ Err c.in_err-directories.field-0.0 = search rules in
+    rw is (c.in_err-directories.ensures.grounds c.args.making.names.now.choice c.args.making.max_bytes [])
+
+pub returns-in-Err-clause-grounds : goal.returns-in-Err-clause-grounds
+returns-in-Err-clause-grounds g c =
+    rw c.refuse.ensures.refusal (engine_grounds c.args.making.names.now.choice c.args.making.max_bytes []
+    (words_of c.args.sets.now) _ (map (λ bytes. bytes.items) c.in_ok-directories.directories.items) c.in-Err.fault.fault
+    c.in-Err.fault.conflict c.in_ok-directories.ensures.read
+    (rw (c.of_bytes-limits.ensures, c.deref-2.ensures.value, c.in_ok-slices.ensures.bytes, c.deref.ensures.value) at
+    c.in-Err.ensures.merges))
+
+pub returns-clause-grounds : goal.returns-clause-grounds
+returns-clause-grounds g c =
+    making_grounds c.args.making.names.now.choice c.args.making.max_bytes [] (words_of c.args.sets.now) _
+    c.write_noted.result c.write_noted.ensures.grounds

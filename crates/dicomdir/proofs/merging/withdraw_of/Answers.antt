@@ -5,6 +5,7 @@ use Rattle.dicomdir.specs.Origins.{IsMemberPath}
 use Rattle.dicomdir.proofs.EngineMade.{done_merges, only_one}
 use Rattle.dicomdir.proofs.PrintedLines.{merge_prints}
 use Rattle.dd_file_set.proofs.Unlinked.{unlinked_done}
+use Rattle.dicomdir.proofs.SetsGrounds.{engine_grounds, making_grounds}
 use Rattle.dicomdir.proofs.merging.withdraw_of.Goals as goal
 
 pub returns-clause-made : goal.returns-clause-made
@@ -39,3 +40,26 @@ pub returns-in_err-directories-clause-due : goal.returns-in_err-directories-clau
 returns-in_err-directories-clause-due g c =
     let is : c.from_residual.result ≡ Err c.in_err-directories.field-0.0 = search rules in
     rw is (c.in_err-directories.ensures.due c.args.making.strict)
+
+pub returns-in_err-directories-clause-grounds : goal.returns-in_err-directories-clause-grounds
+returns-in_err-directories-clause-grounds g c =
+    let is : c.from_residual.result ≡ Err c.in_err-directories.field-0.0 = search rules in
+    rw is (c.in_err-directories.ensures.grounds c.args.making.names.now.choice c.args.making.max_bytes
+    c.args.making.names.now.withdrawn.items)
+
+pub returns-in-Err-clause-grounds : goal.returns-in-Err-clause-grounds
+returns-in-Err-clause-grounds g c =
+    let count = c.in_ok-slices.ensures.count ∙ ap (λ all. length all) c.deref.ensures.value
+    ∙ c.in_ok-directories.ensures.all ∙ c.requires in
+    let set = only_one c.in_ok-slices.slices.items c.index.result.now (λ slice. slice.now) count c.index.ensures
+    ∙ (rw c.deref.ensures.value at c.in_ok-slices.ensures.bytes) in
+    rw c.refuse.ensures.refusal (engine_grounds c.args.making.names.now.choice c.args.making.max_bytes
+    c.args.making.names.now.withdrawn.items (words_of c.args.sets.now) _
+    (map (λ bytes. bytes.items) c.in_ok-directories.directories.items) c.in-Err.fault.fault c.in-Err.fault.conflict
+    c.in_ok-directories.ensures.read
+    (rw (c.of_bytes-limits.ensures, c.deref-2.ensures.value, set) at c.in-Err.ensures.merges))
+
+pub returns-clause-grounds : goal.returns-clause-grounds
+returns-clause-grounds g c =
+    making_grounds c.args.making.names.now.choice c.args.making.max_bytes c.args.making.names.now.withdrawn.items
+    (words_of c.args.sets.now) _ c.write_noted.result c.write_noted.ensures.grounds

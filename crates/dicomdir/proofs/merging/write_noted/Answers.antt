@@ -5,6 +5,7 @@ use Rattle.dd_line.specs.Line.{words_of}
 use Rattle.dicomdir.proofs.EngineMade.{once_done}
 use Rattle.dicomdir.proofs.PrintedLines.{said_both, unnoted, unwithdrawn}
 use Rattle.dicomdir.proofs.SaidLines.{on_ok_gives}
+use Rattle.dicomdir.proofs.SetsGrounds.{making_without}
 use Rattle.dicomdir.specs.Noted.{IsNoted}
 use Rattle.dicomdir.specs.Prints.{last_line}
 use Rattle.dd_file_set.specs.declared.refusal.Refusal.{Refusal}
@@ -39,3 +40,6 @@ returns-then-making-clause-printed g c =
     (last_line making.style making.dry_run noted.merged.plan)
     (on_ok_gives c.tell_noted.result ok (c.tell_noted.ensures.said (unwithdrawn making.strict noted strict))) strict
     (rw c.if-making.true c.tell_counts.ensures.done)
+
+pub returns-clause-grounds : goal.returns-clause-grounds
+returns-clause-grounds g c = making_without g.F.In.Read _ _ c.make_file_set.result c.make_file_set.ensures.due

@@ -8,6 +8,9 @@ use Rattle.dicomdir.proofs.piles.add_source.Goals as goal
 pub returns : goal.returns
 returns c = λ ok lists part last counted is.
     piled_more lists part (source_view c.args.staged) c.args.piled.now _ c.in_ok-shown_name.field-0 _ is
-    c.in_ok-push.ensures.items (rw c.deref.ensures.value at c.in_ok-shown_name.ensures) c.in_ok-push-2.ensures.items
+    c.in_ok-push.ensures.items (record {
+      utf8 = rw c.deref.ensures.value at c.in_ok-shown_name.ensures.utf8;
+      other = rw c.deref.ensures.value at c.in_ok-shown_name.ensures.other;
+    }) c.in_ok-push-2.ensures.items
     (record { in_pile = sym last; counted = sym counted }) refl
     (on_ok_gives c.push-3.result ok c.push-3.ensures)

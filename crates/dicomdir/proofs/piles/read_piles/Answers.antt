@@ -1,5 +1,5 @@
 -- The list of one pile more was read.
-use Rattle.std.proofs.Common.{◌≡◌, ◌∙◌, [], ap, arith, get_or, refl, rules, string_bytes, subst, sym}
+use Rattle.std.proofs.Common.{◌≡◌, ◌∙◌, Err, [], ap, arith, get_or, refl, rules, string_bytes, subst, sym}
 use Rattle.std.proofs.Common.{true}
 use Rattle.std.proofs.lemmas.List.{get_or-map, length-map}
 use Rattle.std.proofs.lemmas.Result.{err_from_is_err_and}
@@ -22,6 +22,18 @@ pub returns-in_err-add_list-in-Ok-clause-refusal : goal.returns-in_err-add_list-
 returns-in_err-add_list-in-Ok-clause-refusal g c =
     let p = err_from_is_err_and c.from_residual.result c.from_residual.ensures.1 in
     rw (p.1, p.2) (search rules)
+
+pub returns-in-Err-clause-grounds : goal.returns-in-Err-clause-grounds
+returns-in-Err-clause-grounds g c = λ choice bytes.
+    let piles = c.args.piles.now in
+    let at = c.loop-at.at in
+    let held = g.F.Files.held c.args.files.now in
+    let pile : c.as_str.result.now ≡ get_or (words_of piles) at [] =
+    c.as_str.ensures.value ∙ ap (λ word. string_bytes word) c.index-piles-at.is
+    ∙ sym (get_or-map (λ word. string_bytes word) piles at c.index-piles-at.result [] c.loop-at-test.true) in
+    c.refusal_of.ensures.grounds choice bytes (words_of piles) held
+    (λ item is. rw (pile, c.loop-at.invariant.kept) at c.in-Err.ensures.bad item (ap Err is))
+    (λ is. rw (pile, c.loop-at.invariant.kept) at c.in-Err.ensures.long (ap Err is))
 
 pub loop-at-preserved : goal.loop-at-preserved
 loop-at-preserved g c =

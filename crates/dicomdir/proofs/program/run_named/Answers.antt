@@ -1,4 +1,4 @@
-use Rattle.std.proofs.Common.{inl, inr}
+use Rattle.std.proofs.Common.{inl, inr, sym}
 use Rattle.std.specs.Prelude.{length}
 use Rattle.dicomdir.proofs.RefusedRuns.{refused_before, refused_in}
 use Rattle.dicomdir.proofs.program.run_named.Goals as goal
@@ -53,7 +53,7 @@ run_verb-requires-clause-named g c =
 -- What was refused has a reason.
 pub returns-in-Err-clause-refused : goal.returns-in-Err-clause-refused
 returns-in-Err-clause-refused g c = λ one. inr
-    (refused_before g.F.In.Read g.E.Write c.args.work.request.now _ _ _ _ _ _ c.in-Err.refusal _
+    (refused_before g.F.In.Read g.E.Write c.args.work.request.now _ _ _ _ _ _ _ c.in-Err.refusal _
     c.tell_refusal.ensures.counts.0 c.in-Err.ensures.due
     (rw (c.paths_of-given.ensures.folder, c.paths_of-given.ensures.sources) at c.tell_refusal.ensures.told))
 
@@ -63,6 +63,18 @@ returns-in-Ok-run_verb-clause-refused g c = λ one. inl (c.in-Ok-run_verb.ensure
 pub returns-clause-refused : goal.returns-clause-refused
 returns-clause-refused g c = λ one.
     let told = c.tell_refusal-in-Err-run_verb.ensures in
-    inr (refused_in g.F.In.Read g.E.Write c.args.work.request.now _ _ _ _ _ _ c.in-Err-run_verb.refusal _ _ _
-    told.counts.0 told.counts.1 c.in-Err-run_verb.ensures.due (inr (_, c.in-Ok.ensures.listed))
+    let found = c.in-Ok.ensures.listed in
+    let names = c.requires in
+    inr (refused_in g.F.In.Read g.E.Write c.args.work.request.now _ _ _ _ _ _ _ c.in-Err-run_verb.refusal _ _ _
+    told.counts.0 told.counts.1 c.in-Err-run_verb.ensures.due
+    (record {
+      names = found.sources;
+      are = found.are;
+      grounds = rw (sym told.kept) at
+          (rw (c.silence_quiet.ensures.kept, c.all_sources.ensures.kept, names.chooses, names.withdraws) at
+          c.in-Err-run_verb.ensures.grounds found.sources
+          (rw (c.paths_or-sources.ensures, c.paths_of-given.ensures.sources, c.bad_names_in.ensures) found.have)
+          (rw c.bad_names_in.ensures found.none));
+    })
+    (inr (_, found))
     (rw (c.paths_of-given.ensures.folder, c.paths_or-sources.ensures, c.paths_of-given.ensures.sources) at told.told))

@@ -40,13 +40,13 @@ returns-in-Err-clause-status g c = record {
 -- What was refused has a reason.
 pub returns-in-Err-clause-refused : goal.returns-in-Err-clause-refused
 returns-in-Err-clause-refused g c = λ one. inr
-    (refused_names g.F.In.Read g.E.Write c.args.request.now _ _ _ _ _ _ c.in-Err.fault c.tell_with_hints.result _ _ _
+    (refused_names g.F.In.Read g.E.Write c.args.request.now _ _ _ _ _ _ _ c.in-Err.fault c.tell_with_hints.result _ _ _
     one (λ bad. c.tell_with_hints.ensures.line.1 (rw c.general-refusal.ensures bad)) c.in-Err.ensures.fault
     (rw c.general-refusal.ensures at c.tell_with_hints.ensures.told))
 
 pub returns-in-Some-clause-refused : goal.returns-in-Some-clause-refused
 returns-in-Some-clause-refused g c = λ one. inr
-    (refused_empty g.F.In.Read g.E.Write c.args.request.now _ _ _ _ _ _ c.in-Some.refusal
+    (refused_empty g.F.In.Read g.E.Write c.args.request.now _ _ _ _ _ _ _ c.in-Some.refusal
     (some_empty c.args.request.now c.written_in.result c.written_in.ensures
     (rw c.paths_of-paths.ensures.sources at c.in-Some.ensures.some))
     (rw (c.paths_of-paths.ensures.folder, c.paths_of-paths.ensures.sources) at c.tell_empty.ensures.told))

@@ -1,5 +1,5 @@
 -- A command is done where it has made its file-set: of the folder, the label and the limit of its request.
-use Rattle.std.proofs.Common.{◌∙◌, refl}
+use Rattle.std.proofs.Common.{◌∙◌, refl, rules}
 use Rattle.dd_line.specs.Line.{words_of}
 use Rattle.dicomdir.proofs.HavingPaths.{all_named}
 use Rattle.dd_file_set.specs.declared.refusal.Refusal.{Refusal}
@@ -94,3 +94,42 @@ pub returns-in-List-clause-printed : goal.returns-in-List-clause-printed
 returns-in-List-clause-printed g c =
     let of = c.listing_of.ensures in
     rw c.in-List.is (rw (of.folder, of.form, of.style) at c.run_list.ensures.lists)
+
+-- What is refused has its grounds.
+pub returns-in-Index-clause-grounds : goal.returns-in-Index-clause-grounds
+returns-in-Index-clause-grounds g c = rw c.in-Index.is (λ names have none.
+    let of = c.of-making.ensures in
+    rw (of.names, of.limit) at c.run_index.ensures.grounds names have)
+
+pub returns-in-Merge-clause-grounds : goal.returns-in-Merge-clause-grounds
+returns-in-Merge-clause-grounds g c = rw c.in-Merge.is (λ names have none.
+    let of = c.of-making-in-Merge.ensures in
+    let same = all_named names (words_of c.args.sources.now) (rw (none refl) at have) in
+    rw (same, of.names, of.limit) at c.run_merge.ensures.grounds)
+
+pub returns-in-Withdraw-clause-grounds : goal.returns-in-Withdraw-clause-grounds
+returns-in-Withdraw-clause-grounds g c = rw c.in-Withdraw.is (λ names have none.
+    let of = c.of-making-in-Withdraw.ensures in
+    rw (of.names, of.limit) at c.run_withdraw.ensures.grounds)
+
+pub returns-in-Stage-clause-grounds : goal.returns-in-Stage-clause-grounds
+returns-in-Stage-clause-grounds g c = rw c.in-Stage.is (λ names have none.
+    let same = all_named names (words_of c.args.sources.now) (rw (none refl) at have) in
+    rw same at c.run_stage.ensures.grounds)
+
+pub returns-in_ok-folder-in-Publish-clause-grounds : goal.returns-in_ok-folder-in-Publish-clause-grounds
+returns-in_ok-folder-in-Publish-clause-grounds g c = rw c.in-Publish.is (λ names have none.
+    let of = c.of-making-in-Publish.ensures in
+    let same = all_named names (words_of c.args.sources.now) (rw (none refl) at have) in
+    rw (same, of.names, of.limit) at c.run_publish.ensures.grounds)
+
+pub returns-in-Check-clause-grounds : goal.returns-in-Check-clause-grounds
+returns-in-Check-clause-grounds g c =
+    rw c.in-Check.is (λ names have none. rw c.check_of.ensures.folder at c.run_check.ensures.grounds)
+
+pub returns-in-List-clause-grounds : goal.returns-in-List-clause-grounds
+returns-in-List-clause-grounds g c =
+    rw c.in-List.is (λ names have none. rw c.listing_of.ensures.folder at c.run_list.ensures.grounds)
+
+pub returns-in_err-folder-in-Publish-clause-grounds : goal.returns-in_err-folder-in-Publish-clause-grounds
+returns-in_err-folder-in-Publish-clause-grounds g c = rw c.in-Publish.is (λ names have none. search rules)

@@ -5,6 +5,7 @@ use Rattle.std.specs.Prelude.{IsOk, Ok}
 use Rattle.dd_engine.specs.Indexed.{IsWithin}
 use Rattle.dd_engine.specs.Noting.{AreBelow, IsBelow}
 use Rattle.dd_line.specs.Line.{words_of}
+use Rattle.dicomdir.proofs.GroundedPiles.{piles_have_none}
 use Rattle.dicomdir.proofs.PilesMade.{all_in_piles, done_publish, have_places, of_names, publish_prints}
 use Rattle.dicomdir.proofs.PrintedLines.{unnoted}
 use Rattle.dicomdir.proofs.SaidLines.{on_ok_gives}
@@ -100,3 +101,18 @@ pub returns-in_err-names-clause-due : goal.returns-in_err-names-clause-due
 returns-in_err-names-clause-due g c =
     let is : c.from_residual.result ≡ Err c.in_err-names.field-0.0 = search rules in
     rw is (c.in_err-names.ensures.due c.args.making.strict)
+
+pub returns-in_err-names-clause-grounds : goal.returns-in_err-names-clause-grounds
+returns-in_err-names-clause-grounds g c =
+    let is : c.from_residual.result ≡ Err c.in_err-names.field-0.0 = search rules in
+    rw is (c.in_err-names.ensures.grounds c.args.making.names.now.choice c.args.making.max_bytes)
+
+pub returns-in-Err-clause-grounds : goal.returns-in-Err-clause-grounds
+returns-in-Err-clause-grounds g c =
+    let choice = c.args.making.names.now.choice in
+    let bytes = c.args.making.max_bytes in
+    let piles = words_of c.args.piles.now in
+    let held = g.F.Files.held c.args.files.now in
+    c.refuse.ensures.grounds choice bytes piles held
+    (λ fault is. piles_have_none choice bytes piles held c.in_ok-names.field-0 c.in-Err.fault.fault fault is
+    c.in_ok-names.ensures.piled c.in-Err.ensures.refused)

@@ -4,6 +4,8 @@ use Rattle.std.proofs.lemmas.List.{get_or-map, length-map, length_push, map_push
 use Rattle.dd_files.specs.Files.{Held}
 use Rattle.dd_line.specs.Line.{words_of}
 use Rattle.dicomdir.proofs.EngineMade.{directory_more}
+use Rattle.dicomdir.proofs.SetsGrounds.{read_grounds}
+use Rattle.dicomdir.specs.Grounds.{GroundsOfCheck}
 use Rattle.dicomdir.specs.Merges.{HasDirectory}
 use Rattle.dicomdir.proofs.set_directory.read_directories.Goals as goal
 
@@ -35,3 +37,18 @@ pub returns-in_err-bytes-clause-due : goal.returns-in_err-bytes-clause-due
 returns-in_err-bytes-clause-due g c = λ strict.
     let is : c.from_residual.result ≡ Err c.in_err-bytes.field-0.0 = search rules in
     rw is (c.in_err-bytes.ensures.due strict)
+
+pub returns-in_err-bytes-clause-grounds : goal.returns-in_err-bytes-clause-grounds
+returns-in_err-bytes-clause-grounds g c = λ choice most given.
+    let is : c.from_residual.result ≡ Err c.in_err-bytes.field-0.0 = search rules in
+    let folders = c.args.folders.now in
+    let at = c.loop-at.at in
+    let item = c.index-folders-at.result in
+    let refusal = c.in_err-bytes.field-0.0 in
+    let folder : get_or (words_of folders) at [] ≡ c.as_str.result.now =
+    get_or-map (λ word. string_bytes word) folders at item [] (omega (arith, c.loop-at-test.true))
+    ∙ sym (c.as_str.ensures.value ∙ ap (λ word. string_bytes word) c.index-folders-at.is) in
+    rw is (read_grounds choice most given (words_of folders) (g.F.Files.held c.args.files.now) at c.as_str.result.now
+    refusal.subject refusal.fault folder c.in_err-bytes.ensures.long
+    (subst (λ (files : Option Held). GroundsOfCheck c.as_str.result.now files refusal.fault) c.loop-at.invariant.kept
+    c.in_err-bytes.ensures.grounds))

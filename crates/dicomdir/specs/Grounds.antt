@@ -1,0 +1,196 @@
+-- What the faults that an engine finds rest on: what the sources, file-sets or piles hold that are read.
+use Rattle.std.specs.Prelude.{◌≡◌, ◌≤◌, ◌^◌, ◌∷◌, ℕ, Bool, false, List, [], Option, Err, IfSome, IsSomeAnd}
+use Rattle.std.specs.Prelude.{codes, length, slice_index_or, string_bytes}
+use Rattle.clap.specs.Words.{Text}
+use Rattle.dd_dir.specs.Reading.{Refuses}
+use Rattle.dd_engine.specs.Indexed.{Indexes}
+use Rattle.dd_engine.specs.Merging.{AreOwn, IsFirst, IsForeign, SetListing}
+use Rattle.dd_engine.specs.MergeSteps.{MergesAs}
+use Rattle.dd_engine.specs.PastFailures.{Reading, answers_of}
+use Rattle.dd_engine.specs.declared.choice.Choice.{Choice}
+use Rattle.dd_engine.specs.declared.engine_fault.EngineFault.{EngineFault}
+use Rattle.dd_engine.specs.declared.engine_fault.EngineFault.TheVariants as engine
+use Rattle.dd_engine.specs.declared.merge_fault.MergeFault.TheVariants as merging
+use Rattle.dd_file_set.specs.Refusal.{IsPileFile}
+use Rattle.dd_file_set.specs.declared.refusal.ProgramFault.{ProgramFault}
+use Rattle.dd_file_set.specs.declared.refusal.ProgramFault.TheVariants.{Absent, BadStage, Dir, ListTooLarge, Memory}
+use Rattle.dd_file_set.specs.declared.refusal.ProgramFault.TheVariants.{Own, Plan, TooLong, Unread}
+use Rattle.dd_file_set.specs.declared.refusal.Refusal.{Refusal}
+use Rattle.dd_file_set.specs.declared.refusal.Subject.{Subject}
+use Rattle.dd_file_set.specs.declared.refusal.Subject.TheVariants as subjects
+use Rattle.dd_files.specs.Files.{Held}
+use Rattle.dd_files.specs.Paths.{IsPathIn}
+use Rattle.dd_line.specs.Line.{words_of}
+use Rattle.dd_line.specs.Requests.{keeps_going, read_of}
+use Rattle.dd_line.specs.declared.request.Request.{Request}
+use Rattle.dd_line.specs.declared.request.Request.TheVariants.{Check, Index, List as ListSet, Merge, Publish, Stage}
+use Rattle.dd_line.specs.declared.request.Request.TheVariants.{Withdraw}
+use Rattle.dd_layout.specs.declared.fault.PlanFault.{PlanFault}
+use Rattle.dd_pile.specs.Lists.{IfList}
+use Rattle.dd_pile.specs.Piles.{HasNoRoom}
+use Rattle.dd_pile.specs.declared.source.StageSource.{StageSource}
+use Rattle.dd_staged.specs.Refusals.{IsBadStage}
+use Rattle.dd_staged.specs.Sources.{Source}
+use Rattle.dicomdir.specs.From.{from_text}
+use Rattle.dicomdir.specs.Indexes.{AreRead, NoneFailed, limits_of}
+use Rattle.dicomdir.specs.ListedNames.{AreSources, list_of}
+use Rattle.dicomdir.specs.Merges.{AreDirectories, HasDirectory}
+use Rattle.dicomdir.specs.Publishes.{AreLists, answers_in}
+use Rattle.dicomdir.specs.Stages.{AreNamed}
+
+-- ---- faults
+
+-- a fault that is not of what was read
+abbrev pub NeedsNoGrounds : ProgramFault → Type 0
+NeedsNoGrounds (Plan fault) = ⊥
+NeedsNoGrounds TooLong = ⊥
+NeedsNoGrounds ListTooLarge = ⊥
+NeedsNoGrounds (BadStage item) = ⊥
+NeedsNoGrounds (Dir fault) = ⊥
+NeedsNoGrounds (Own fault) = ⊥
+NeedsNoGrounds fault = Unit {0}
+
+-- ---- files that are read whole
+
+-- more than a file may have that is read whole
+abbrev pub IsTooLong : List ℕ → Type 0
+IsTooLong bytes = 2 ^ 32 ≤ length bytes
+
+-- the file at the path has bytes of which this is so, where the files say what they hold
+abbrev pub HasSuch : List ℕ → (List ℕ → Type 0) → Option Held → Type 0
+HasSuch path Is files = IfSome files (λ held. IsSomeAnd (held.bytes_at path) Is)
+
+-- the directory in the folder has
+abbrev pub HasSuchDirectory : List ℕ → (List ℕ → Type 0) → Option Held → Type 0
+HasSuchDirectory folder Is files = (path : List ℕ) × IsPathIn folder (codes "DICOMDIR") path × HasSuch path Is files
+
+-- the subject is the source of this number, and this is so of its path
+pub record IsOfOne (paths : List (List ℕ)) (subject : Subject) (Is : List ℕ → Type 0) : Type 0 where
+  pub at : ℕ
+  pub named : subject ≡ subjects.Source at
+  pub is : Is (slice_index_or paths at [])
+
+-- ---- `index`
+
+-- what was read of the sources of these names has no plan, for this fault
+pub record HaveNoPlan (keeps_going : Bool) (choice : Choice) (bytes : ℕ) (names : List (List ℕ)) (files : Option Held)
+    (fault : PlanFault) : Type 0 where
+  pub readings : List Reading
+  pub read : AreRead names files readings
+  pub all : keeps_going ≡ false → NoneFailed readings
+  pub refuses : Indexes choice (limits_of bytes) (answers_of readings) (Err (engine.Plan fault))
+
+-- the fault of a run that an engine refuses with this one
+abbrev pub run_fault : EngineFault → ProgramFault
+run_fault engine.Memory = Memory
+run_fault (engine.Absent at) = Absent
+run_fault (engine.Unread at) = Unread
+run_fault (engine.Plan fault) = Plan fault
+
+-- the grounds of a fault of `index`
+abbrev pub GroundsOfIndex : Bool → Choice → ℕ → List (List ℕ) → Option Held → ProgramFault → Type 0
+GroundsOfIndex keeps_going choice bytes names files (Plan fault) = HaveNoPlan keeps_going choice bytes names files fault
+GroundsOfIndex keeps_going choice bytes names files fault = NeedsNoGrounds fault
+
+-- ---- `merge` and `withdraw`
+
+-- the subject is the first of the file-sets in these folders of whose directory this is so
+pub record IsFirstSet (Is : List ℕ → Type 0) (folders : List (List ℕ)) (files : Option Held) (subject : Subject)
+    : Type 0 where
+  pub sets : List (List ℕ)
+  pub are : AreDirectories folders sets files
+  pub at : ℕ
+  pub named : subject ≡ subjects.Source at
+  pub first : IsFirst Is sets at
+
+-- what the directories in these folders list, without what they withdraw and the given UIDs, has no plan
+pub record SetsHaveNoPlan (choice : Choice) (bytes : ℕ) (given folders : List (List ℕ)) (files : Option Held)
+    (fault : PlanFault) : Type 0 where
+  pub sets : List (List ℕ)
+  pub are : AreDirectories folders sets files
+  pub listings : List SetListing
+  pub own : AreOwn sets listings
+  pub refuses : MergesAs choice (limits_of bytes) given listings (Err (merging.Plan fault))
+
+-- the grounds of a fault of `merge` or `withdraw`, and of its subject
+abbrev pub GroundsOfSets : Choice → ℕ → List (List ℕ) → List (List ℕ) → Option Held → Subject → ProgramFault → Type 0
+GroundsOfSets choice bytes given folders files subject (Plan fault) =
+    SetsHaveNoPlan choice bytes given folders files fault
+GroundsOfSets choice bytes given folders files subject (Dir fault) =
+    IsFirstSet (λ set. Refuses set fault) folders files subject
+GroundsOfSets choice bytes given folders files subject (Own fault) =
+    IsFirstSet (λ set. IsForeign set fault) folders files subject
+GroundsOfSets choice bytes given folders files subject TooLong =
+    IsOfOne folders subject (λ folder. HasSuchDirectory folder IsTooLong files)
+GroundsOfSets choice bytes given folders files subject fault = NeedsNoGrounds fault
+
+-- ---- `check` and `list`
+
+-- the grounds of a fault of `check`
+abbrev pub GroundsOfCheck : List ℕ → Option Held → ProgramFault → Type 0
+GroundsOfCheck folder files TooLong = HasSuchDirectory folder IsTooLong files
+GroundsOfCheck folder files fault = NeedsNoGrounds fault
+
+-- the grounds of a fault of `list`: also that the directory has no walk
+abbrev pub GroundsOfList : List ℕ → Option Held → ProgramFault → Type 0
+GroundsOfList folder files (Dir fault) =
+    (bytes : List ℕ) × HasDirectory folder bytes files × Refuses bytes fault
+GroundsOfList folder files fault = GroundsOfCheck folder files fault
+
+-- ---- `publish` and `stage`
+
+-- what the lists of these piles say has no plan
+pub record PilesHaveNoPlan (choice : Choice) (bytes : ℕ) (piles : List (List ℕ)) (files : Option Held)
+    (fault : PlanFault) : Type 0 where
+  pub lists : List (List Source)
+  pub are : AreLists piles lists files
+  pub refuses : Indexes choice (limits_of bytes) (answers_in lists) (Err (engine.Plan fault))
+
+-- the subject is a file of the pile of this number, whose list is too long
+pub record HasTooLongList (piles : List (List ℕ)) (files : Option Held) (subject : Subject) : Type 0 where
+  pub at : ℕ
+  pub named : IsPileFile at subject
+  pub long : IfList (slice_index_or piles at []) IsTooLong files
+
+-- the grounds of a fault of `publish`, and of its subject
+abbrev pub GroundsOfPiles : Choice → ℕ → List (List ℕ) → Option Held → Subject → ProgramFault → Type 0
+GroundsOfPiles choice bytes piles files subject (Plan fault) = PilesHaveNoPlan choice bytes piles files fault
+GroundsOfPiles choice bytes piles files subject (BadStage item) =
+    IsOfOne piles subject (λ pile. IfList pile (IsBadStage item) files)
+GroundsOfPiles choice bytes piles files subject TooLong = HasTooLongList piles files subject
+GroundsOfPiles choice bytes piles files subject fault = NeedsNoGrounds fault
+
+-- a pile of the files at the sources of these names has no list, since that would be too large
+pub record HasNoList (from pile : List ℕ) (names : List (List ℕ)) (old new : Option Held) : Type 0 where
+  pub sources : List StageSource
+  pub are : AreNamed from names sources
+  pub large : HasNoRoom pile sources old new
+
+-- the grounds of a fault of `stage`
+abbrev pub GroundsOfStage : List ℕ → List ℕ → List (List ℕ) → Option Held → Option Held → ProgramFault → Type 0
+GroundsOfStage from pile names old new ListTooLarge = HasNoList from pile names old new
+GroundsOfStage from pile names old new fault = NeedsNoGrounds fault
+
+-- ---- any command
+
+-- the grounds of a refusal of a request that reads these sources, under this label and without these instances
+abbrev pub GroundsOf : Request → Choice → List Text → List Text → Option Held → Option Held → Refusal → Type 0
+GroundsOf (Index x) choice withdrawn names old new refusal =
+    GroundsOfIndex x.keep_going choice x.new_set.max_bytes names old refusal.fault
+GroundsOf (Merge x) choice withdrawn names old new refusal =
+    GroundsOfSets choice x.new_set.max_bytes [] names old refusal.subject refusal.fault
+GroundsOf (Withdraw x) choice withdrawn names old new refusal =
+    GroundsOfSets choice x.new_set.max_bytes withdrawn (string_bytes x.set ∷ []) old refusal.subject refusal.fault
+GroundsOf (Stage x) choice withdrawn names old new refusal =
+    GroundsOfStage (from_text x.from) (string_bytes x.pile) names old new refusal.fault
+GroundsOf (Publish x) choice withdrawn names old new refusal =
+    GroundsOfPiles choice x.new_set.max_bytes names old refusal.subject refusal.fault
+GroundsOf (Check x) choice withdrawn names old new refusal = GroundsOfCheck (string_bytes x.set) old refusal.fault
+GroundsOf (ListSet x) choice withdrawn names old new refusal = GroundsOfList (string_bytes x.set) old refusal.fault
+
+-- the same of the paths that it reads and, after them, the names of its list
+pub record HasGrounds (r : Request) (choice : Choice) (withdrawn : List Text) (old new : Option Held)
+    (refusal : Refusal) : Type 0 where
+  pub names : List Text
+  pub are : AreSources (keeps_going r) (list_of r) (words_of (read_of r)) old names
+  pub grounds : GroundsOf r choice withdrawn names old new refusal
