@@ -54,8 +54,8 @@ pub record AddsTo (at sources more : ℕ) (old new : ℕ → ℕ) : Type 0 where
   pub here : at < sources → new at ≡ added (old at) more
   pub others : OthersStay at old new
 
--- Where the bytes of a reader of this source are counted, they are those of which `was_given` is so. The counts of all
--- other sources are as they were.
+-- Where it is counted how many bytes a reader of this source gave, the count is right. The counts of all other sources
+-- are as they were.
 pub record CountsGiven (was_given : List ℕ → Type 0) (at sources : ℕ) (old new : ℕ → Option ℕ) : Type 0 where
   pub here : at < sources
       → IfSome (new at) (λ count. (bytes : List ℕ) → was_given bytes → count ≡ min (length bytes) last_count)

@@ -137,7 +137,7 @@ amid row front rows left x pick first next true [] rest =
 amid row front rows left x pick first next true (one ∷ all) rest =
     there (row, one) x (zip rows all) (next all rest)
 
--- the first pick that is left is that of the next record with a file
+-- the next record with a file has the first of the picks that are left
 row_among : {P : Type 0} (rows : List PlanRecord) (all left : List P) (at : ℕ) (d : PlanRecord) (pick : P)
     → at < length rows → IsSome (get_or rows at d).file → left ≡ drop (length (named (take at rows))) all
     → slice_get left 0 ≡ Some pick → Contains (zip (named rows) all) (get_or rows at d, pick)

@@ -1,4 +1,4 @@
--- The folder of an image: its path is that of the image without its last component.
+-- The path of an image is the path of its folder, a `/`, and the last component of its File ID.
 use Rattle.std.proofs.Common.{◌≡◌, ◌∙◌, ◌≤◌, ◌<◌, ◌+◌, ℕ, List, [], ◌∷◌, ◌++◌, length, take, ap, arith, refl, subst}
 use Rattle.std.proofs.Common.{sym}
 use Rattle.std.proofs.Common.{append_assoc, length-append, take_all}
@@ -90,7 +90,7 @@ apart set front last path folder is at =
       apart = λ some not_so. joined (set ++ codes "/") front last folder (at.apart some not_so);
     })
 
--- the folder at this path was made, which is that of the image
+-- the folder of the image was made
 pub has_folder_of : (has_folder : List ℕ → Type 0) (set folder path : List ℕ) (ranks : Ranks) → AreRanks ranks
     → (All (λ byte. byte < 128) (take 26 (text_of ranks)) → IsPathIn set (id_path (take 26 (text_of ranks))) folder)
     → has_folder folder → IsPlace set ranks path → HasFolderOf has_folder path

@@ -1,4 +1,4 @@
--- What an index reads of its files, whether it goes on past those that fail or not.
+-- What `index` reads of its sources, with `--keep-going` and without it.
 use Rattle.std.proofs.Common.{◌≡◌, ◌∙◌, ◌<◌, ℕ, zero, suc, List, [], ◌∷◌, Bool, true, false, Option, Result, Ok, Err}
 use Rattle.std.proofs.Common.{Global, String, ap, arith, get_or, length, map, refl, subst, sym, true≢false}
 use Rattle.std.specs.Prelude.{IfErr, IfOk, IfSome, slice_get}

@@ -19,7 +19,7 @@ contents_by held paths at = option_and_then (contents_at held) (slice_get paths 
 abbrev pub is_one : List ℕ → ℕ → Bool
 is_one numbers at = list_any (nat_eq at) numbers
 
--- the source of this number has a path, and where the files say what they hold, it stands there
+-- the source of this number has a path, and where the files say what they hold, a file stands there
 pub record IsThere (held : Option Held) (paths : List (List ℕ)) (bad : List ℕ) (at : ℕ) : Type 0 where
   pub named : is_one bad at ≡ false
   pub stands : IfSome held (λ files. IsSome (files.bytes_at (slice_index_or paths at [])))
