@@ -2,12 +2,15 @@
 use Rattle.std.proofs.Common.{◌≡◌, IfErr, refl, Ok, Err, Result, inl, inr, ap, ap₂}
 use Rattle.std.proofs.Common.{true, ◌||◌, ◌∙◌}
 use Rattle.std.specs.Prelude.{IsErrAnd, MatchResult}
-use Rattle.clap.specs.Words.{AddsSubcommand, App, HasKind, Kinds, is_simple, is_simple_and_free}
-use Rattle.clap.specs.Words.{kind_of, with_subcommand}
-use Rattle.clap.specs.declared.builder.command.Command.{Command}
+use Rattle.clap.specs.Simple.{app_of_fields}
+use Rattle.clap.specs.Words.{AddsArg, AddsSubcommand, App, HasKind, Kinds, Rule, is_simple, is_simple_and_free}
+use Rattle.clap.specs.Words.{kind_of, with_rule, with_subcommand}
+use Rattle.clap.specs.declared.builder.arg.Arg.{Arg}
+use Rattle.clap.specs.declared.builder.command.Command.{Command, Command-F}
+use Rattle.clap.specs.declared.builder.command.Command.TheViews.{out-Command as fields_of}
 use Rattle.clap.specs.declared.error.Error.{Error}
 use Rattle.clap.specs.declared.error.kind.ErrorKind.TheVariants.{OutOfMemory}
-use Rattle.dd_line.specs.Line.{HasApp, IsFaultOf, IsRefusedFor, dicomdir_app}
+use Rattle.dd_line.specs.Line.{HasApp, HasRule, IsFaultOf, IsRefusedFor, dicomdir_app}
 use Rattle.dd_line.specs.declared.line.LineFault.{LineFault}
 use Rattle.dd_line.specs.declared.line.LineFault.TheVariants.{Refused, Memory}
 
@@ -41,6 +44,23 @@ app_is_simple = refl
 
 pub app_is_free : is_simple_and_free dicomdir_app ≡ true
 app_is_free = refl
+
+-- a command that differs in no field that its app shows
+pub shows_same : (x : App) (old new : Command) (fields : Command-F Command) → fields_of new ≡ fields
+    → app_of_fields fields ≡ app_of_fields (fields_of old) → fields.has_globals ≡ (fields_of old).has_globals
+    → HasApp x old → HasApp x new
+shows_same x old new fields is shown globals h = record {
+  app = ap app_of_fields is ∙ shown ∙ h.app;
+  local = ap (λ (f : Command-F Command). f.has_globals) is ∙ globals ∙ h.local;
+}
+
+-- the app of a command with one argument more
+pub with_arg : (x : App) (rule : Rule) (old new : Command) (arg : Arg) → HasApp x old → HasRule rule arg
+    → AddsArg old arg new → HasApp (with_rule x rule) new
+with_arg x rule old new arg h has adds = record {
+  app = adds.shape has.local ∙ ap₂ with_rule h.app has.rule;
+  local = adds.globals ∙ ap₂ ◌||◌ h.local has.local;
+}
 
 -- the app of a command with one subcommand more
 pub with_sub : (x y : App) (old sub new : Command) → HasApp x old → HasApp y sub → AddsSubcommand old sub new

@@ -1,0 +1,14 @@
+-- The command has each argument in turn.
+use Rattle.std.proofs.Common.{refl}
+use Rattle.std.proofs.lemmas.Result.{IfOk-weaker}
+use Rattle.dd_line.proofs.LineLemmas.{shows_same, with_arg}
+use Rattle.dd_line.proofs.commands.labelled_command.Goals as goal
+
+pub returns : goal.returns
+returns c =
+    let start = shows_same _ _ _ _ c.about.ensures refl refl
+    (record { app = c.new.ensures.app; local = c.new.ensures.local }) in
+    let id = with_arg _ _ _ _ _ start c.option.ensures c.in_ok-arg.ensures in
+    let uid = with_arg _ _ _ _ _ id c.option-2.ensures c.in_ok-arg-2.ensures in
+    IfOk-weaker c.arg-3.result _ _
+    (λ command adds. with_arg _ _ _ _ _ uid c.option-3.ensures adds) c.arg-3.ensures

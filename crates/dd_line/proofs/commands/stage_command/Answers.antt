@@ -1,0 +1,10 @@
+-- The command has each argument in turn.
+use Rattle.std.proofs.lemmas.Result.{IfOk-weaker}
+use Rattle.dd_line.proofs.LineLemmas.{with_arg}
+use Rattle.dd_line.proofs.commands.stage_command.Goals as goal
+
+pub returns : goal.returns
+returns c =
+    let pile = with_arg _ _ _ _ _ c.in_ok-staging_command.ensures c.path.ensures c.in_ok-arg.ensures in
+    IfOk-weaker c.arg-2.result _ _
+    (λ command adds. with_arg _ _ _ _ _ pile c.any_paths.ensures adds) c.arg-2.ensures

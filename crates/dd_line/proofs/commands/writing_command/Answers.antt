@@ -1,0 +1,12 @@
+-- The command has each argument in turn.
+use Rattle.std.proofs.lemmas.Result.{IfOk-weaker}
+use Rattle.dd_line.proofs.LineLemmas.{with_arg}
+use Rattle.dd_line.proofs.commands.writing_command.Goals as goal
+
+pub returns : goal.returns
+returns c =
+    let quiet = with_arg _ _ _ _ _ c.in_ok-making_command.ensures c.quiet.ensures c.in_ok-arg.ensures in
+    let verbose = with_arg _ _ _ _ _ quiet c.verbose.ensures c.in_ok-arg-2.ensures in
+    let json = with_arg _ _ _ _ _ verbose c.json.ensures c.in_ok-arg-3.ensures in
+    IfOk-weaker c.arg-4.result _ _
+    (λ command adds. with_arg _ _ _ _ _ json c.path.ensures adds) c.arg-4.ensures
