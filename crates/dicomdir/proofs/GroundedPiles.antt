@@ -1,18 +1,30 @@
 -- The grounds of what refuses a publish or a stage.
-use Rattle.std.proofs.Common.{◌≡◌, ℕ, List, Option, Err, refl}
+use Rattle.std.proofs.Common.{◌≡◌, ◌∙◌, ℕ, Bool, List, Option, Ok, Err, Result, IfErr, get_or, refl, sym, true}
 use Rattle.dd_engine.specs.declared.choice.Choice.{Choice}
 use Rattle.dd_engine.specs.declared.engine_fault.EngineFault.{EngineFault}
 use Rattle.dd_engine.specs.declared.engine_fault.EngineFault.TheVariants as engine
+use Rattle.dd_engine.specs.declared.noted_index.NotedIndex.{NotedIndex}
 use Rattle.dd_engine.specs.Found.{HasFound}
 use Rattle.dd_engine.specs.Indexed.{Indexes}
 use Rattle.dd_engine.specs.Indexing.{Answer}
+use Rattle.dd_file_set.specs.Refusal.{IsStrict}
+use Rattle.dd_file_set.specs.declared.refusal.ProgramFault.{ProgramFault}
+use Rattle.dd_file_set.specs.declared.refusal.ProgramFault.TheVariants.{Absent, BadName, BadStage, Changed, Create, Dir}
+use Rattle.dd_file_set.specs.declared.refusal.ProgramFault.TheVariants.{Folder, ListTooLarge, Memory, Own, Plan, SetId}
+use Rattle.dd_file_set.specs.declared.refusal.ProgramFault.TheVariants.{Strict, TooLong, Uid, Unread, Unsent}
+use Rattle.dd_file_set.specs.declared.refusal.Refusal.{Refusal}
+use Rattle.dd_file_set.specs.declared.refusal.Subject.{Subject}
 use Rattle.dd_files.specs.Files.{Held}
 use Rattle.dd_layout.specs.declared.fault.PlanFault.{PlanFault}
 use Rattle.dd_pile.specs.declared.refusal.StageRefusal.{StageRefusal}
 use Rattle.dd_pile.specs.declared.refusal.StageRefusal.TheVariants as stage
-use Rattle.dicomdir.specs.Grounds.{GroundsOfStage, HasNoList, PilesHaveNoPlan}
+use Rattle.dicomdir.proofs.MadeGrounds.{strict_grounds, unfit_by}
+use Rattle.dicomdir.proofs.PilesMade.{NotesFound, copy_of, same_size}
+use Rattle.dicomdir.specs.Grounds.{GroundsOfMaking, GroundsOfPiles, GroundsOfStage, HasChangedCopy, HasNoList}
+use Rattle.dicomdir.specs.Grounds.{HasUnfitImage, PilesHaveNoPlan}
 use Rattle.dicomdir.specs.Indexes.{limits_of}
-use Rattle.dicomdir.specs.Publishes.{HasPiled, answers_in}
+use Rattle.dicomdir.specs.Noted.{IsNotedIndex}
+use Rattle.dicomdir.specs.Publishes.{HasPiled, IsCopyAt, IsCopyOf, MayLinkAt, MayLinkCopy, answers_in}
 use Rattle.dicomdir.specs.Stages.{fault_of}
 use Rattle.dicomdir.specs.declared.piles.Piled.{Piled}
 
@@ -29,6 +41,77 @@ module _ (choice : Choice) (bytes : ℕ) (piles : List (List ℕ)) (files : Opti
     are = are;
     refuses = rw is at (refuses (answers_in lists) found.found);
   }
+
+module _ (choice : Choice) (bytes : ℕ) (piles : List (List ℕ)) (links : Bool) (old new : Option Held) where
+  -- the copy of a pick has changed
+  changed_copy : (piled : Piled) (noted : NotedIndex) → HasPiled piles old piled
+      → NotesFound choice bytes piles piled noted
+      → HasUnfitImage (IsCopyAt piles piled.places.items) (MayLinkAt (links ≡ true) piled.places.items) (links ≡ true)
+      noted.indexed.plan noted.indexed.picks.items new
+      → HasChangedCopy choice bytes piles (links ≡ true) old new
+  changed_copy piled noted (lists, are, is) notes changed = record {
+    lists = lists;
+    are = are;
+    indexed = noted.indexed;
+    is = (notes (answers_in lists) is.found).0;
+    changed = unfit_by (IsCopyAt piles piled.places.items) (IsCopyOf piles lists)
+        (MayLinkAt (links ≡ true) piled.places.items) (MayLinkCopy (links ≡ true) lists) (links ≡ true)
+        noted.indexed.plan noted.indexed.picks.items new
+        (λ at d within. record {
+          stands = λ path. copy_of piles lists piled (get_or noted.indexed.picks.items at d) path is;
+          links = λ bytes may. (
+            may.0,
+            may.1 ∙ sym (same_size lists piled is (get_or noted.indexed.picks.items at d)),
+          );
+        }) changed;
+  }
+
+  -- there is a note
+  pub publish_noted : (piled : Piled) (noted : NotedIndex) (refusal : Refusal) → IsStrict refusal
+      → HasPiled piles old piled → NotesFound choice bytes piles piled noted → IsNotedIndex noted
+      → GroundsOfPiles choice bytes piles links old new refusal.subject refusal.fault
+  publish_noted piled noted refusal strict (lists, are, found) notes is =
+      strict_grounds (GroundsOfPiles choice bytes piles links old new refusal.subject) refusal strict (record {
+        lists = lists;
+        are = are;
+        noted = noted;
+        notes = notes (answers_in lists) found.found;
+        is = is;
+      })
+
+  -- a fault of making the file-set
+  piles_made : (piled : Piled) (noted : NotedIndex) → HasPiled piles old piled
+      → NotesFound choice bytes piles piled noted → (subject : Subject) (fault : ProgramFault)
+      → GroundsOfMaking (HasUnfitImage (IsCopyAt piles piled.places.items)
+      (MayLinkAt (links ≡ true) piled.places.items) (links ≡ true) noted.indexed.plan noted.indexed.picks.items new) ⊥ fault
+      → GroundsOfPiles choice bytes piles links old new subject fault
+  piles_made piled noted has notes subject Absent made = tt
+  piles_made piled noted has notes subject Unread made = tt
+  piles_made piled noted has notes subject Create made = tt
+  piles_made piled noted has notes subject Folder made = tt
+  piles_made piled noted has notes subject Unsent made = tt
+  piles_made piled noted has notes subject Changed made = changed_copy piled noted has notes made
+  piles_made piled noted has notes subject Memory made = tt
+  piles_made piled noted has notes subject Strict made = absurd made
+  piles_made piled noted has notes subject (Uid bad) made = tt
+  piles_made piled noted has notes subject (SetId bad) made = tt
+  piles_made piled noted has notes subject (BadName number) made = tt
+  piles_made piled noted has notes subject (Plan fault) made = absurd made
+  piles_made piled noted has notes subject TooLong made = absurd made
+  piles_made piled noted has notes subject ListTooLarge made = absurd made
+  piles_made piled noted has notes subject (BadStage item) made = absurd made
+  piles_made piled noted has notes subject (Dir fault) made = absurd made
+  piles_made piled noted has notes subject (Own fault) made = absurd made
+
+  pub publish_grounds : {T : Type 0} (result : Result T Refusal) (piled : Piled) (noted : NotedIndex)
+      → HasPiled piles old piled → NotesFound choice bytes piles piled noted
+      → IfErr result (λ refusal. GroundsOfMaking (HasUnfitImage (IsCopyAt piles piled.places.items)
+      (MayLinkAt (links ≡ true) piled.places.items) (links ≡ true) noted.indexed.plan noted.indexed.picks.items new) ⊥
+      refusal.fault)
+      → IfErr result (λ refusal. GroundsOfPiles choice bytes piles links old new refusal.subject refusal.fault)
+  publish_grounds (Ok done) piled noted has notes made = tt
+  publish_grounds (Err refusal) piled noted has notes made =
+      piles_made piled noted has notes refusal.subject refusal.fault made
 
 -- ---- `stage`
 

@@ -23,6 +23,7 @@ mod LinesRefused
 mod LinesSaid
 mod LongFiles
 mod LookedUp
+mod MadeGrounds
 mod MadeLast
 mod Masking
 mod NameParts

@@ -80,7 +80,7 @@ have_places piles files piled picks (lists, are, is) within =
 -- ---- copies
 
 -- the length of a copy is that which the lists say
-same_size : (lists : List (List Source)) (piled : Piled) → IsPiled lists piled → (at : ℕ)
+pub same_size : (lists : List (List Source)) (piled : Piled) → IsPiled lists piled → (at : ℕ)
     → size_at piled.places.items at ≡ get_or (sizes_in lists) at 0
 same_size lists piled is at =
     sym (get_or-map (λ (place : Place). place.size) piled.places.items at
@@ -98,7 +98,7 @@ same_bytes lists piled picks is = ap (λ (n : ℕ). min n last_count) (sums pick
       sum_by-cons (size_at piled.places.items) at picks ∙ ap₂ (λ (a b : ℕ). a + b) (same_size lists piled is at) (sums picks)
       ∙ sym (sum_by-cons (λ (at : ℕ). get_or (sizes_in lists) at 0) at picks)
 
-copy_of : (piles : List (List ℕ)) (lists : List (List Source)) (piled : Piled) (at : ℕ) (path : List ℕ)
+pub copy_of : (piles : List (List ℕ)) (lists : List (List Source)) (piled : Piled) (at : ℕ) (path : List ℕ)
     → IsPiled lists piled → IsCopyAt piles piled.places.items at path → IsCopyOf piles lists at path
 copy_of piles lists piled at path is copy =
     let (pile, number, in_pile) = in_some_pile lists at (omega (arith, copy.within, is.places.count)) in

@@ -13,7 +13,7 @@ use Rattle.dd_files.specs.Files.{Held}
 use Rattle.dd_line.specs.Line.{words_of}
 use Rattle.dd_line.specs.Requests.{folder_of, id_of, instances_of, read_of, uid_of}
 use Rattle.dd_line.specs.declared.request.Request.{Request}
-use Rattle.dicomdir.specs.EmptyPaths.{RequestsEmptyPath}
+use Rattle.dicomdir.specs.EmptyPaths.{IsOfEmptyPath, RequestsEmptyPath}
 use Rattle.dicomdir.specs.Faults.{TellsRefusal, given_list}
 use Rattle.dicomdir.specs.Grounds.{HasGrounds}
 use Rattle.dicomdir.specs.Names.{choice_by}
@@ -56,11 +56,11 @@ module _ {R E : Type 0} (reads : ReadOf R) (writer : WriteOf E) (r : Request) (r
   }
 
   -- for an empty path
-  pub refused_empty : RequestsEmptyPath r
+  pub refused_empty : RequestsEmptyPath r → IsOfEmptyPath refusal.fault
       → TellsRefusal writer r (folder_of r) (words_of (read_of r)) (given_list r) refusal.subject old new → Refused
-  refused_empty empty told = record {
+  refused_empty empty of told = record {
     refusal = refusal;
-    due = inl empty;
+    due = inl (empty, of);
     sources = words_of (read_of r);
     are = inl refl;
     told = told;

@@ -3,6 +3,8 @@ use Rattle.std.specs.Prelude.{◌≡◌, ◌<◌, List, ℕ, [], Option, None, S
 use Rattle.std.specs.Prelude.{string_bytes}
 use Rattle.std.specs.declared.alloc.Global.{Global}
 use Rattle.clap.specs.Words.{Row, Text}
+use Rattle.dd_file_set.specs.declared.refusal.ProgramFault.{ProgramFault}
+use Rattle.dd_file_set.specs.declared.refusal.ProgramFault.TheVariants.{Absent, Folder}
 use Rattle.dd_line.specs.Line.{given_paths}
 use Rattle.dd_line.specs.Requests.{paths_of}
 use Rattle.dd_line.specs.declared.request.Request.{Request}
@@ -16,6 +18,12 @@ pub record IsEmptyAt (paths : List (String Global)) (at : ℕ) : Type 0 where
 pub record IsFirstEmpty (paths : List (String Global)) (at : ℕ) : Type 0 where
   pub here : IsEmptyAt paths at
   pub first : (before : ℕ) → before < at → ¬ IsEmptyAt paths before
+
+-- a fault for an empty path: of the folder that is written to, or of a source
+abbrev pub IsOfEmptyPath : ProgramFault → Type 0
+IsOfEmptyPath Folder = Unit {0}
+IsOfEmptyPath Absent = Unit {0}
+IsOfEmptyPath fault = ⊥
 
 -- a request has an empty path
 abbrev pub RequestsEmptyPath : Request → Type 0

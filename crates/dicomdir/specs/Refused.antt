@@ -11,7 +11,7 @@ use Rattle.dd_line.specs.Line.{words_of}
 use Rattle.dd_line.specs.Requests.{IsRequested, folder_of, id_of, instances_of, keeps_going, read_of, uid_of}
 use Rattle.dd_line.specs.declared.request.Request.{Request}
 use Rattle.dd_line.specs.declared.request.Request.TheVariants.{Check, Index, List as ListSet, Merge, Publish, Stage, Withdraw}
-use Rattle.dicomdir.specs.EmptyPaths.{RequestsEmptyPath}
+use Rattle.dicomdir.specs.EmptyPaths.{IsOfEmptyPath, RequestsEmptyPath}
 use Rattle.dicomdir.specs.Faults.{TellsFault, TellsRefusal, given_list}
 use Rattle.dicomdir.specs.Grounds.{HasGrounds}
 use Rattle.dicomdir.specs.ListedNames.{FindsSources, list_of}
@@ -33,11 +33,11 @@ abbrev pub IsDueToWork : {R : Type 0} → ReadOf R → ℕ → ℕ → Request �
 IsDueToWork reads refusals failures r old new refusal = IsDue reads refusals failures (refuses_notes r) refusal.fault
     × HasGrounds r (choice_by (id_of r) (uid_of r)) (words_of (instances_of r)) old new refusal
 
--- The evidence for a refusal: a path of the line is empty, there is evidence from before the work or from the work, or
--- it says that an allocation was refused, which has none.
+-- The evidence for a refusal: a path of the line is empty, as it says, there is evidence from before the work or from the
+-- work, or it says that an allocation was refused, which has none.
 abbrev pub IsDueOf : {R : Type 0} → ReadOf R → ℕ → ℕ → (List ℕ → Type 0) → Request → Option Held → Option Held
     → Refusal → Type 0
-IsDueOf reads refusals failures may_be_taken r old new refusal = RequestsEmptyPath r
+IsDueOf reads refusals failures may_be_taken r old new refusal = (RequestsEmptyPath r × IsOfEmptyPath refusal.fault)
     ⊎ (IsDueBefore reads refusals may_be_taken r old refusal.fault
     ⊎ (IsDueToWork reads refusals failures r old new refusal ⊎ (refusal.fault ≡ Memory)))
 

@@ -1,5 +1,5 @@
 ghost use Rattle.std.specs.Prelude.{◌≡◌, ◌<◌, ℕ, [], None, Some, IfSome, length, ◌⊎◌, IsSomeAnd};
-ghost use Rattle.dicomdir.specs.EmptyPaths.{IsEmptyAt, IsFirstEmpty};
+ghost use Rattle.dicomdir.specs.EmptyPaths.{IsEmptyAt, IsFirstEmpty, IsOfEmptyPath};
 ghost use Rattle.dd_file_set.specs.Refusal.{IsOfWork};
 
 use dd_file_set::{ProgramFault, Refusal, Subject};
@@ -30,6 +30,7 @@ pub(crate) fn empty_path(folder: Option<&str>, sources: &[String]) -> Option<Ref
         → ((at : ℕ) → ¬ IsEmptyAt sources.now at) → result ≡ None }
     ensures some { IfSome result (λ _. IsSomeAnd folder.entry (λ folder. folder.now ≡ [])
         ⊎ ((at : ℕ) × IsEmptyAt sources.now at)) }
+    ensures fault { IfSome result (λ refusal. IsOfEmptyPath refusal.fault) }
     ensures work { IfSome result (λ refusal. IsOfWork (length sources.now) refusal) }
     ensures folders { result ≡ None → IfSome folder.entry (λ folder. ¬ (folder.now ≡ [])) }
     ensures sources { result ≡ None → (at : ℕ) → ¬ IsEmptyAt sources.now at }

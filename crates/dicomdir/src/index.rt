@@ -56,7 +56,7 @@ pub(crate) fn run_index<F: Files + Progress + Hints, O: Write>(
     ensures grounds { (names : List (List ℕ))
         → HavePaths names (words_of sources.now) making.entry.bad_names.now
         → IfErr result (λ refusal. GroundsOfIndex making.entry.keep_going making.entry.names.now.choice
-        making.entry.max_bytes names (F.held files.old) refusal.fault) }
+        making.entry.max_bytes names (F.held files.old) (F.held files.new) refusal.fault) }
     ensures failed { IfOk result (λ status. status ≡ 1 → HasFailed (O.failures out.old) (O.failures out.new)) }
     ensures status { IfOk result (IsIndexStatus making.entry.keep_going) }
     ensures dry { making.entry.dry_run ≡ true → F.held files.new ≡ F.held files.old }
@@ -96,7 +96,7 @@ fn index_sources<F: Files + Progress + Hints, O: Write>(
     ensures grounds { (names : List (List ℕ))
         → HavePaths names (words_of sources.now) making.entry.bad_names.now
         → IfErr result (λ refusal. GroundsOfIndex making.entry.keep_going making.entry.names.now.choice
-        making.entry.max_bytes names (F.held files.old) refusal.fault) }
+        making.entry.max_bytes names (F.held files.old) (F.held files.new) refusal.fault) }
     ensures failed { IfOk result (λ status. status ≡ 1 → HasFailed (O.failures out.old) (O.failures out.new)) }
     ensures status { IfOk result (IsIndexStatus making.entry.keep_going) }
     ensures dry { making.entry.dry_run ≡ true → F.held files.new ≡ F.held files.old }

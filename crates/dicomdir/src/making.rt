@@ -4,6 +4,7 @@ ghost use Rattle.dd_files.specs.Keeping.{IfSaid};
 ghost use Rattle.dd_layout.specs.Plans.{size};
 ghost use Rattle.dd_lines.specs.Text.{TakesText};
 ghost use Rattle.dicomdir.specs.Done.{counts_words, ending_text, images_text, images_words, word_of};
+ghost use Rattle.dicomdir.specs.Grounds.{GroundsOfMaking, HasUnfitImage};
 ghost use Rattle.dicomdir.specs.Inspecting.{style_by};
 ghost use Rattle.dd_file_set.specs.Left.{MakesDirectoryLast};
 ghost use Rattle.dd_file_set.specs.Made.{MakesFileSet};
@@ -119,6 +120,9 @@ pub(crate) fn make_file_set<F: Files + Progress, O: Origins, W: Write>(
     ensures refusal { IfErr result (IsOfWork (O.paths set.now.origins.now)) }
     ensures due { IfErr result (λ refusal.
         IsDueTo F.In.Read (F.refusals files.new) (F.Write.failures files.new) refusal.fault) }
+    ensures grounds { IfErr result (λ refusal. GroundsOfMaking (HasUnfitImage
+        (O.stands_at set.now.origins.now) (O.may_link set.now.origins.now) (O.gives_links set.now.origins.now)
+        set.now.plan.now set.now.picks.now (F.held files.new)) ⊥ refusal.fault) }
     ensures failed { IfOk result (λ status. status ≡ 1 → HasFailed (W.failures out.old) (W.failures out.new)) }
     ensures status { IfOk result (λ status. status ≤ 1) }
     ensures last { IfSaid (MakesDirectoryLast set.now.folder.now) (F.held files.old) (F.held files.new) }

@@ -16,7 +16,7 @@ ghost use Rattle.dicomdir.specs.Prints.{PrintsMerge, last_line};
 ghost use Rattle.dd_file_set.specs.Refusal.{IsOfWork, IsStrict};
 ghost use Rattle.dicomdir.specs.Reasons.{IsDue, IsOfEngine, set_refusal};
 ghost use Rattle.dicomdir.specs.Said.{SaysSetNotes};
-ghost use Rattle.dicomdir.specs.Grounds.{GroundsOfSets, NeedsNoGrounds};
+ghost use Rattle.dicomdir.specs.Grounds.{GroundsOfMaking, GroundsOfSets, HasUnfitImage};
 
 use crate::dates::show_dates;
 use crate::making::{Ending, Making, make_file_set, tell_counts};
@@ -46,7 +46,8 @@ pub(crate) fn run_merge<F: Files + Progress + Hints, O: Write>(
     ensures due { IfErr result (λ refusal. IsDue F.In.Read (F.refusals files.new) (F.Write.failures files.new)
         making.entry.strict refusal.fault) }
     ensures grounds { IfErr result (λ refusal. GroundsOfSets making.entry.names.now.choice making.entry.max_bytes
-        [] (words_of sets.now) (F.held files.old) refusal.subject refusal.fault) }
+        [] (words_of sets.now) making.entry.link (F.held files.old) (F.held files.new)
+        refusal.subject refusal.fault) }
     ensures failed { IfOk result (λ status. status ≡ 1 → HasFailed (O.failures out.old) (O.failures out.new)) }
     ensures status { IfOk result (λ status. status ≤ 1) }
     ensures dry { making.entry.dry_run ≡ true → F.held files.new ≡ F.held files.old }
@@ -80,7 +81,8 @@ fn merge_sets<F: Files + Progress + Hints, O: Write>(
     ensures due { IfErr result (λ refusal. IsDue F.In.Read (F.refusals files.new) (F.Write.failures files.new)
         making.entry.strict refusal.fault) }
     ensures grounds { IfErr result (λ refusal. GroundsOfSets making.entry.names.now.choice making.entry.max_bytes
-        [] (words_of sets.now) (F.held files.old) refusal.subject refusal.fault) }
+        [] (words_of sets.now) making.entry.link (F.held files.old) (F.held files.new)
+        refusal.subject refusal.fault) }
     ensures failed { IfOk result (λ status. status ≡ 1 → HasFailed (O.failures out.old) (O.failures out.new)) }
     ensures status { IfOk result (λ status. status ≤ 1) }
     ensures dry { making.entry.dry_run ≡ true → F.held files.new ≡ F.held files.old }
@@ -121,7 +123,7 @@ pub(crate) fn run_withdraw<F: Files + Progress + Hints, O: Write>(
     ensures due { IfErr result (λ refusal. IsDue F.In.Read (F.refusals files.new) (F.Write.failures files.new)
         making.entry.strict refusal.fault) }
     ensures grounds { IfErr result (λ refusal. GroundsOfSets making.entry.names.now.choice making.entry.max_bytes
-        making.entry.names.now.withdrawn.items (string_bytes set.now ∷ []) (F.held files.old)
+        making.entry.names.now.withdrawn.items (string_bytes set.now ∷ []) false (F.held files.old) (F.held files.new)
         refusal.subject refusal.fault) }
     ensures failed { IfOk result (λ status. status ≡ 1 → HasFailed (O.failures out.old) (O.failures out.new)) }
     ensures status { IfOk result (λ status. status ≤ 1) }
@@ -159,7 +161,8 @@ fn withdraw_of<F: Files + Progress + Hints, O: Write>(
     ensures due { IfErr result (λ refusal. IsDue F.In.Read (F.refusals files.new) (F.Write.failures files.new)
         making.entry.strict refusal.fault) }
     ensures grounds { IfErr result (λ refusal. GroundsOfSets making.entry.names.now.choice making.entry.max_bytes
-        making.entry.names.now.withdrawn.items (words_of sets.now) (F.held files.old) refusal.subject refusal.fault) }
+        making.entry.names.now.withdrawn.items (words_of sets.now) false (F.held files.old) (F.held files.new)
+        refusal.subject refusal.fault) }
     ensures failed { IfOk result (λ status. status ≡ 1 → HasFailed (O.failures out.old) (O.failures out.new)) }
     ensures status { IfOk result (λ status. status ≤ 1) }
     ensures dry { making.entry.dry_run ≡ true → F.held files.new ≡ F.held files.old }
@@ -208,7 +211,9 @@ fn write_noted<'a, F: Files + Progress + Hints, O: Write>(
     ensures refusal { IfErr result (IsOfWork (length sets.now.folders.now)) }
     ensures due { IfErr result (λ refusal. IsDue F.In.Read (F.refusals files.new) (F.Write.failures files.new)
         making.entry.strict refusal.fault) }
-    ensures grounds { IfErr result (λ refusal. NeedsNoGrounds refusal.fault) }
+    ensures grounds { IfErr result (λ refusal. GroundsOfMaking (HasUnfitImage
+        (IsMemberPath (words_of sets.now.folders.now)) (λ _ _. sets.now.link ≡ true) (sets.now.link ≡ true)
+        noted.now.merged.plan noted.now.merged.picks.items (F.held files.new)) (IsNoted noted.now) refusal.fault) }
     ensures failed { IfOk result (λ status. status ≡ 1 → HasFailed (O.failures out.old) (O.failures out.new)) }
     ensures status { IfOk result (λ status. status ≤ 1) }
     ensures dry { making.entry.dry_run ≡ true → F.held files.new ≡ F.held files.old }

@@ -52,8 +52,9 @@ pub(crate) fn read_piles<F: Files + Progress>(
     ensures refusal { IfErr result (IsOfWork (length piles.now)) }
     ensures due { (strict : Bool) → IfErr result (λ refusal.
         IsDue F.In.Read (F.refusals files.new) (F.Write.failures files.new) strict refusal.fault) }
-    ensures grounds { (choice : Choice) → (bytes : ℕ) → IfErr result (λ refusal. GroundsOfPiles choice bytes
-        (words_of piles.now) (F.held files.old) refusal.subject refusal.fault) }
+    ensures grounds { (choice : Choice) → (bytes : ℕ) → (links : Bool) → (new : Option Held)
+        → IfErr result (λ refusal. GroundsOfPiles choice bytes (words_of piles.now) links (F.held files.old) new
+        refusal.subject refusal.fault) }
     ensures piled { IfOk result (HasPiled (words_of piles.now) (F.held files.old)) }
     ensures kept { F.held files.new ≡ F.held files.old }
 {
@@ -120,11 +121,12 @@ fn shown_name(alloc: Global, name: &[u8]) -> Result<String, Memory>
 fn refusal_of(fault: PileFault, at: usize) -> Refusal
     ensures work { (paths : ℕ) → at < paths → IsOfWork paths result }
     ensures fault { result.fault ≡ fault_of fault }
-    ensures grounds { (choice : Choice) → (bytes : ℕ) → (piles : List (List ℕ)) → (files : Option Held)
+    ensures grounds { (choice : Choice) → (bytes : ℕ) → (piles : List (List ℕ)) → (links : Bool)
+        → (old : Option Held) → (new : Option Held)
         → ((item : ℕ) → fault ≡ PileFault.BadStage item
-        → IfList (slice_index_or piles at []) (IsBadStage item) files)
-        → (fault ≡ PileFault.TooLong → IfList (slice_index_or piles at []) IsTooLong files)
-        → GroundsOfPiles choice bytes piles files result.subject result.fault }
+        → IfList (slice_index_or piles at []) (IsBadStage item) old)
+        → (fault ≡ PileFault.TooLong → IfList (slice_index_or piles at []) IsTooLong old)
+        → GroundsOfPiles choice bytes piles links old new result.subject result.fault }
 {
     let list = Subject::PileFile(at, PathText::of(&STAGED));
     match fault {

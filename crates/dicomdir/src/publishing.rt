@@ -1,5 +1,6 @@
 //! The command `publish`: makes a file-set of piles.
-ghost use Rattle.std.specs.Prelude.{◌≡◌, ◌<◌, ◌≤◌, ℕ, All, List, Err, IfErr, IfOk, Ok, Option, false, length, true};
+ghost use Rattle.std.specs.Prelude.{◌≡◌, ◌<◌, ◌≤◌, ℕ, All, Bool, List, Err, IfErr, IfOk, Ok, Option};
+ghost use Rattle.std.specs.Prelude.{false, length, true};
 ghost use Rattle.dd_elem.specs.Device.{HasFailed};
 ghost use Rattle.dd_engine.specs.Found.{HasFound};
 ghost use Rattle.dd_engine.specs.Indexed.{Indexes, IsWithin};
@@ -44,7 +45,8 @@ pub(crate) fn run_publish<F: Files + Progress + Hints, O: Write>(
     ensures due { IfErr result (λ refusal. IsDue F.In.Read (F.refusals files.new) (F.Write.failures files.new)
         making.entry.strict refusal.fault) }
     ensures grounds { IfErr result (λ refusal. GroundsOfPiles making.entry.names.now.choice making.entry.max_bytes
-        (words_of piles.now) (F.held files.old) refusal.subject refusal.fault) }
+        (words_of piles.now) making.entry.link (F.held files.old) (F.held files.new)
+        refusal.subject refusal.fault) }
     ensures failed { IfOk result (λ status. status ≡ 1 → HasFailed (O.failures out.old) (O.failures out.new)) }
     ensures status { IfOk result (λ status. status ≤ 1) }
     ensures dry { making.entry.dry_run ≡ true → F.held files.new ≡ F.held files.old }
@@ -78,7 +80,8 @@ fn publish_piles<F: Files + Progress + Hints, O: Write>(
     ensures due { IfErr result (λ refusal. IsDue F.In.Read (F.refusals files.new) (F.Write.failures files.new)
         making.entry.strict refusal.fault) }
     ensures grounds { IfErr result (λ refusal. GroundsOfPiles making.entry.names.now.choice making.entry.max_bytes
-        (words_of piles.now) (F.held files.old) refusal.subject refusal.fault) }
+        (words_of piles.now) making.entry.link (F.held files.old) (F.held files.new)
+        refusal.subject refusal.fault) }
     ensures failed { IfOk result (λ status. status ≡ 1 → HasFailed (O.failures out.old) (O.failures out.new)) }
     ensures status { IfOk result (λ status. status ≤ 1) }
     ensures dry { making.entry.dry_run ≡ true → F.held files.new ≡ F.held files.old }
@@ -174,10 +177,11 @@ fn refuse<O: Write>(
     requires { IsBelow (λ at. at) (length names.now) noted.now.conflict }
     ensures work { (paths : ℕ) → IsOfWork paths result }
     ensures engine { IsOfEngine result.fault }
-    ensures grounds { (choice : Choice) → (bytes : ℕ) → (piles : List (List ℕ)) → (files : Option Held)
+    ensures grounds { (choice : Choice) → (bytes : ℕ) → (piles : List (List ℕ)) → (links : Bool)
+        → (old : Option Held) → (new : Option Held)
         → ((fault : PlanFault) → noted.now.fault ≡ EngineFault.Plan fault
-        → PilesHaveNoPlan choice bytes piles files fault)
-        → GroundsOfPiles choice bytes piles files result.subject result.fault }
+        → PilesHaveNoPlan choice bytes piles old fault)
+        → GroundsOfPiles choice bytes piles links old new result.subject result.fault }
 {
     match noted.fault {
         EngineFault::Plan(fault) => {

@@ -22,8 +22,8 @@ pub(crate) fn read_directories<F: Files + Progress>(
     ensures refusal { IfErr result (IsOfWork (length folders.now)) }
     ensures due { (strict : Bool) → IfErr result (λ refusal.
         IsDue F.In.Read (F.refusals files.new) (F.Write.failures files.new) strict refusal.fault) }
-    ensures grounds { (choice : Choice) (bytes : ℕ) (given : List (List ℕ))
-        → IfErr result (λ refusal. GroundsOfSets choice bytes given (words_of folders.now) (F.held files.old)
+    ensures grounds { (choice : Choice) (bytes : ℕ) (given : List (List ℕ)) (links : Bool) (new : Option Held)
+        → IfErr result (λ refusal. GroundsOfSets choice bytes given (words_of folders.now) links (F.held files.old) new
         refusal.subject refusal.fault) }
     ensures all { IfOk result (λ all. length all.items ≡ length folders.now) }
     ensures read { IfOk result (λ all. AreDirectories (words_of folders.now)

@@ -1,8 +1,10 @@
 -- What was made is of the answer of the engine, whose sources are the files as they were.
 use Rattle.std.proofs.Common.{◌≡◌, ◌∙◌, refl, rules, sym}
+use Rattle.std.proofs.lemmas.Result.{err_from_is_err_and}
 use Rattle.std.specs.Prelude.{IsOk}
 use Rattle.dd_line.specs.Line.{words_of}
-use Rattle.dicomdir.proofs.IndexGrounds.{engine_grounds}
+use Rattle.dicomdir.proofs.IndexGrounds.{engine_grounds, index_made, index_noted}
+use Rattle.dicomdir.proofs.MadeGrounds.{noted_by}
 use Rattle.dicomdir.proofs.PastFailures.{at_most_one, done_index, index_status}
 use Rattle.dicomdir.proofs.CountedFiles.{take_first}
 use Rattle.dicomdir.proofs.PrintedLines.{images_counted, index_prints, unnoted}
@@ -83,5 +85,26 @@ returns-then-making-clause-printed g c = λ names have.
 pub returns-in-Err-clause-grounds : goal.returns-in-Err-clause-grounds
 returns-in-Err-clause-grounds g c = λ names have.
     let making = c.args.making in
-    rw c.refuse.ensures.found (engine_grounds making.keep_going making.names.now.choice making.max_bytes names _
+    rw c.refuse.ensures.found (engine_grounds making.keep_going making.names.now.choice making.max_bytes names _ _
     c.in-Err.fault.fault (rw c.begin_step.ensures.kept at c.in-Err.ensures.grounds names have))
+
+pub returns-in_err-status-clause-grounds : goal.returns-in_err-status-clause-grounds
+returns-in_err-status-clause-grounds g c = λ names have.
+    let making = c.args.making in
+    let p = err_from_is_err_and c.from_residual-in_err-status.result c.from_residual-in_err-status.ensures.1 in
+    rw (p.1, p.2) (index_made making.keep_going making.names.now.choice making.max_bytes names _ _
+    (words_of c.args.sources.now) making.bad_names.now c.in-Ok.past.noted have
+    (rw c.begin_step.ensures.kept at c.in-Ok.ensures.answers names have) c.in_err-status.field-0.0.fault
+    (rw c.deref-2.ensures.value at c.in_err-status.ensures.grounds))
+
+pub returns-in_err-refuse_noted-clause-grounds : goal.returns-in_err-refuse_noted-clause-grounds
+returns-in_err-refuse_noted-clause-grounds g c = λ names have.
+    let making = c.args.making in
+    let noted = c.in-Ok.past.noted in
+    let refused = c.in_err-refuse_noted.ensures in
+    let p = err_from_is_err_and c.from_residual-in_err-refuse_noted.result
+    c.from_residual-in_err-refuse_noted.ensures.1 in
+    rw (p.1, p.2) (index_noted making.keep_going making.names.now.choice making.max_bytes names _ _
+    c.in_err-refuse_noted.field-0.0 noted refused.fault
+    (rw c.begin_step.ensures.kept at c.in-Ok.ensures.answers names have)
+    (noted_by making.strict c.is_noted.result (IsNotedIndex noted) refused.refuses c.is_noted.ensures))

@@ -33,17 +33,23 @@ returns-in_err-directories-clause-due g c =
 pub returns-in_err-directories-clause-grounds : goal.returns-in_err-directories-clause-grounds
 returns-in_err-directories-clause-grounds g c =
     let is : c.from_residual.result ≡ Err c.in_err-directories.field-0.0 = search rules in
-    rw is (c.in_err-directories.ensures.grounds c.args.making.names.now.choice c.args.making.max_bytes [])
+    rw is (c.in_err-directories.ensures.grounds c.args.making.names.now.choice c.args.making.max_bytes []
+    c.args.making.link _)
 
 pub returns-in-Err-clause-grounds : goal.returns-in-Err-clause-grounds
 returns-in-Err-clause-grounds g c =
     rw c.refuse.ensures.refusal (engine_grounds c.args.making.names.now.choice c.args.making.max_bytes []
-    (words_of c.args.sets.now) _ (map (λ bytes. bytes.items) c.in_ok-directories.directories.items) c.in-Err.fault.fault
+    (words_of c.args.sets.now) c.args.making.link _ _ (map (λ bytes. bytes.items) c.in_ok-directories.directories.items) c.in-Err.fault.fault
     c.in-Err.fault.conflict c.in_ok-directories.ensures.read
     (rw (c.of_bytes-limits.ensures, c.deref-2.ensures.value, c.in_ok-slices.ensures.bytes, c.deref.ensures.value) at
     c.in-Err.ensures.merges))
 
 pub returns-clause-grounds : goal.returns-clause-grounds
 returns-clause-grounds g c =
-    making_grounds c.args.making.names.now.choice c.args.making.max_bytes [] (words_of c.args.sets.now) _
-    c.write_noted.result c.write_noted.ensures.grounds
+    making_grounds c.args.making.names.now.choice c.args.making.max_bytes [] (words_of c.args.sets.now)
+    c.args.making.link _ _ c.write_noted.result
+    (map (λ bytes. bytes.items) c.in_ok-directories.directories.items) c.in-Ok.noted
+    c.in_ok-directories.ensures.read
+    (rw (c.of_bytes-limits.ensures, c.deref-2.ensures.value, c.in_ok-slices.ensures.bytes, c.deref.ensures.value) at
+    c.in-Ok.ensures.merges)
+    c.write_noted.ensures.grounds

@@ -1,5 +1,5 @@
 -- What was made is of the answer of the engine, whose one set is the directory in the folder. Images get no hard links.
-use Rattle.std.proofs.Common.{◌≡◌, ◌∙◌, Err, ap, length, map, rules}
+use Rattle.std.proofs.Common.{◌≡◌, ◌∙◌, Err, ap, false, length, map, rules}
 use Rattle.dd_line.specs.Line.{words_of}
 use Rattle.dicomdir.specs.Origins.{IsMemberPath}
 use Rattle.dicomdir.proofs.EngineMade.{done_merges, only_one}
@@ -45,7 +45,7 @@ pub returns-in_err-directories-clause-grounds : goal.returns-in_err-directories-
 returns-in_err-directories-clause-grounds g c =
     let is : c.from_residual.result ≡ Err c.in_err-directories.field-0.0 = search rules in
     rw is (c.in_err-directories.ensures.grounds c.args.making.names.now.choice c.args.making.max_bytes
-    c.args.making.names.now.withdrawn.items)
+    c.args.making.names.now.withdrawn.items false _)
 
 pub returns-in-Err-clause-grounds : goal.returns-in-Err-clause-grounds
 returns-in-Err-clause-grounds g c =
@@ -54,12 +54,20 @@ returns-in-Err-clause-grounds g c =
     let set = only_one c.in_ok-slices.slices.items c.index.result.now (λ slice. slice.now) count c.index.ensures
     ∙ (rw c.deref.ensures.value at c.in_ok-slices.ensures.bytes) in
     rw c.refuse.ensures.refusal (engine_grounds c.args.making.names.now.choice c.args.making.max_bytes
-    c.args.making.names.now.withdrawn.items (words_of c.args.sets.now) _
+    c.args.making.names.now.withdrawn.items (words_of c.args.sets.now) false _ _
     (map (λ bytes. bytes.items) c.in_ok-directories.directories.items) c.in-Err.fault.fault c.in-Err.fault.conflict
     c.in_ok-directories.ensures.read
     (rw (c.of_bytes-limits.ensures, c.deref-2.ensures.value, set) at c.in-Err.ensures.merges))
 
 pub returns-clause-grounds : goal.returns-clause-grounds
 returns-clause-grounds g c =
+    let count = c.in_ok-slices.ensures.count ∙ ap (λ all. length all) c.deref.ensures.value
+    ∙ c.in_ok-directories.ensures.all ∙ c.requires in
+    let set = only_one c.in_ok-slices.slices.items c.index.result.now (λ slice. slice.now) count c.index.ensures
+    ∙ (rw c.deref.ensures.value at c.in_ok-slices.ensures.bytes) in
     making_grounds c.args.making.names.now.choice c.args.making.max_bytes c.args.making.names.now.withdrawn.items
-    (words_of c.args.sets.now) _ c.write_noted.result c.write_noted.ensures.grounds
+    (words_of c.args.sets.now) false _ _ c.write_noted.result
+    (map (λ bytes. bytes.items) c.in_ok-directories.directories.items) c.in-Ok.noted
+    c.in_ok-directories.ensures.read
+    (rw (c.of_bytes-limits.ensures, c.deref-2.ensures.value, set) at c.in-Ok.ensures.merges)
+    c.write_noted.ensures.grounds

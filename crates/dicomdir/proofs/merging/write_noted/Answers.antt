@@ -1,12 +1,15 @@
 -- What was made is made where the command is done: the file-set of all picks.
-use Rattle.std.proofs.Common.{rules}
+use Rattle.std.proofs.Common.{◌≡◌, rules, true}
+use Rattle.std.proofs.lemmas.Result.{err_from_is_err_and}
 use Rattle.std.specs.Prelude.{IsOk, Ok}
 use Rattle.dd_line.specs.Line.{words_of}
 use Rattle.dicomdir.proofs.EngineMade.{once_done}
+use Rattle.dicomdir.proofs.MadeGrounds.{noted_by, noted_grounds, strict_grounds}
 use Rattle.dicomdir.proofs.PrintedLines.{said_both, unnoted, unwithdrawn}
 use Rattle.dicomdir.proofs.SaidLines.{on_ok_gives}
-use Rattle.dicomdir.proofs.SetsGrounds.{making_without}
+use Rattle.dicomdir.specs.Grounds.{GroundsOfMaking, HasUnfitImage}
 use Rattle.dicomdir.specs.Noted.{IsNoted}
+use Rattle.dicomdir.specs.Origins.{IsMemberPath}
 use Rattle.dicomdir.specs.Prints.{last_line}
 use Rattle.dd_file_set.specs.declared.refusal.Refusal.{Refusal}
 use Rattle.dicomdir.proofs.merging.write_noted.Goals as goal
@@ -42,4 +45,19 @@ returns-then-making-clause-printed g c =
     (rw c.if-making.true c.tell_counts.ensures.done)
 
 pub returns-clause-grounds : goal.returns-clause-grounds
-returns-clause-grounds g c = making_without g.F.In.Read _ _ c.make_file_set.result c.make_file_set.ensures.due
+returns-clause-grounds g c =
+    noted_grounds c.make_file_set.result (HasUnfitImage (IsMemberPath (words_of c.args.sets.now.folders.now))
+    (λ _ _. c.args.sets.now.link ≡ true) (c.args.sets.now.link ≡ true) c.args.noted.now.merged.plan
+    c.args.noted.now.merged.picks.items (g.F.Files.held c.make_file_set.new.files)) (IsNoted c.args.noted.now)
+    (rw c.deref.ensures.value at c.make_file_set.ensures.grounds)
+
+pub returns-in_err-refuse_noted-clause-grounds : goal.returns-in_err-refuse_noted-clause-grounds
+returns-in_err-refuse_noted-clause-grounds g c =
+    let p = err_from_is_err_and c.from_residual.result c.from_residual.ensures.1 in
+    let refused = c.in_err-refuse_noted.ensures in
+    let unfit = HasUnfitImage (IsMemberPath (words_of c.args.sets.now.folders.now))
+    (λ _ _. c.args.sets.now.link ≡ true) (c.args.sets.now.link ≡ true) c.args.noted.now.merged.plan
+    c.args.noted.now.merged.picks.items (g.F.Files.held c.args.files.now) in
+    rw (p.1, p.2) (strict_grounds (GroundsOfMaking unfit (IsNoted c.args.noted.now)) c.in_err-refuse_noted.field-0.0
+    refused.fault (noted_by c.args.making.strict c.is_noted.result (IsNoted c.args.noted.now) refused.refuses
+    c.is_noted.ensures))

@@ -24,14 +24,14 @@ returns-in_err-add_list-in-Ok-clause-refusal g c =
     rw (p.1, p.2) (search rules)
 
 pub returns-in-Err-clause-grounds : goal.returns-in-Err-clause-grounds
-returns-in-Err-clause-grounds g c = λ choice bytes.
+returns-in-Err-clause-grounds g c = λ choice bytes links new.
     let piles = c.args.piles.now in
     let at = c.loop-at.at in
     let held = g.F.Files.held c.args.files.now in
     let pile : c.as_str.result.now ≡ get_or (words_of piles) at [] =
     c.as_str.ensures.value ∙ ap (λ word. string_bytes word) c.index-piles-at.is
     ∙ sym (get_or-map (λ word. string_bytes word) piles at c.index-piles-at.result [] c.loop-at-test.true) in
-    c.refusal_of.ensures.grounds choice bytes (words_of piles) held
+    c.refusal_of.ensures.grounds choice bytes (words_of piles) links held new
     (λ item is. rw (pile, c.loop-at.invariant.kept) at c.in-Err.ensures.bad item (ap Err is))
     (λ is. rw (pile, c.loop-at.invariant.kept) at c.in-Err.ensures.long (ap Err is))
 

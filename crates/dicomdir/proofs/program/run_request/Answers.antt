@@ -48,5 +48,5 @@ pub returns-in-Some-clause-refused : goal.returns-in-Some-clause-refused
 returns-in-Some-clause-refused g c = λ one. inr
     (refused_empty g.F.In.Read g.E.Write c.args.request.now _ _ _ _ _ _ _ c.in-Some.refusal
     (some_empty c.args.request.now c.written_in.result c.written_in.ensures
-    (rw c.paths_of-paths.ensures.sources at c.in-Some.ensures.some))
+    (rw c.paths_of-paths.ensures.sources at c.in-Some.ensures.some)) c.in-Some.ensures.fault
     (rw (c.paths_of-paths.ensures.folder, c.paths_of-paths.ensures.sources) at c.tell_empty.ensures.told))

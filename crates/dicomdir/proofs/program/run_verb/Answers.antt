@@ -105,7 +105,7 @@ pub returns-in-Merge-clause-grounds : goal.returns-in-Merge-clause-grounds
 returns-in-Merge-clause-grounds g c = rw c.in-Merge.is (λ names have none.
     let of = c.of-making-in-Merge.ensures in
     let same = all_named names (words_of c.args.sources.now) (rw (none refl) at have) in
-    rw (same, of.names, of.limit) at c.run_merge.ensures.grounds)
+    rw (same, of.names, of.limit, of.link) at c.run_merge.ensures.grounds)
 
 pub returns-in-Withdraw-clause-grounds : goal.returns-in-Withdraw-clause-grounds
 returns-in-Withdraw-clause-grounds g c = rw c.in-Withdraw.is (λ names have none.
@@ -121,7 +121,7 @@ pub returns-in_ok-folder-in-Publish-clause-grounds : goal.returns-in_ok-folder-i
 returns-in_ok-folder-in-Publish-clause-grounds g c = rw c.in-Publish.is (λ names have none.
     let of = c.of-making-in-Publish.ensures in
     let same = all_named names (words_of c.args.sources.now) (rw (none refl) at have) in
-    rw (same, of.names, of.limit) at c.run_publish.ensures.grounds)
+    rw (same, of.names, of.limit, of.link) at c.run_publish.ensures.grounds)
 
 pub returns-in-Check-clause-grounds : goal.returns-in-Check-clause-grounds
 returns-in-Check-clause-grounds g c =

@@ -1,16 +1,19 @@
 -- What was made and printed is of the answer of the engine on what the lists of the piles say.
 use Rattle.std.proofs.Common.{◌≡◌, Err, length, rules, string_bytes, true}
 use Rattle.std.proofs.lemmas.List.{length-map}
-use Rattle.std.specs.Prelude.{IsOk, Ok}
+use Rattle.std.proofs.lemmas.Result.{err_from_is_err_and}
+use Rattle.std.specs.Prelude.{IfErr, IsOk, Ok}
 use Rattle.dd_engine.specs.Indexed.{IsWithin}
 use Rattle.dd_engine.specs.Noting.{AreBelow, IsBelow}
 use Rattle.dd_line.specs.Line.{words_of}
-use Rattle.dicomdir.proofs.GroundedPiles.{piles_have_none}
+use Rattle.dicomdir.proofs.GroundedPiles.{piles_have_none, publish_grounds, publish_noted}
+use Rattle.dicomdir.proofs.MadeGrounds.{noted_by}
 use Rattle.dicomdir.proofs.PilesMade.{all_in_piles, done_publish, have_places, of_names, publish_prints}
 use Rattle.dicomdir.proofs.PrintedLines.{unnoted}
 use Rattle.dicomdir.proofs.SaidLines.{on_ok_gives}
 use Rattle.dd_file_set.specs.Made.{MakesFileSet}
 use Rattle.dd_file_set.specs.declared.refusal.Refusal.{Refusal}
+use Rattle.dicomdir.specs.Grounds.{GroundsOfMaking, HasUnfitImage}
 use Rattle.dicomdir.specs.Noted.{IsNotedIndex}
 use Rattle.dicomdir.specs.Publishes.{IsCopyAt, MayLinkAt}
 use Rattle.dicomdir.proofs.publishing.publish_piles.Goals as goal
@@ -105,7 +108,7 @@ returns-in_err-names-clause-due g c =
 pub returns-in_err-names-clause-grounds : goal.returns-in_err-names-clause-grounds
 returns-in_err-names-clause-grounds g c =
     let is : c.from_residual.result ≡ Err c.in_err-names.field-0.0 = search rules in
-    rw is (c.in_err-names.ensures.grounds c.args.making.names.now.choice c.args.making.max_bytes)
+    rw is (c.in_err-names.ensures.grounds c.args.making.names.now.choice c.args.making.max_bytes c.args.making.link _)
 
 pub returns-in-Err-clause-grounds : goal.returns-in-Err-clause-grounds
 returns-in-Err-clause-grounds g c =
@@ -113,6 +116,31 @@ returns-in-Err-clause-grounds g c =
     let bytes = c.args.making.max_bytes in
     let piles = words_of c.args.piles.now in
     let held = g.F.Files.held c.args.files.now in
-    c.refuse.ensures.grounds choice bytes piles held
+    c.refuse.ensures.grounds choice bytes piles c.args.making.link held _
     (λ fault is. piles_have_none choice bytes piles held c.in_ok-names.field-0 c.in-Err.fault.fault fault is
     c.in_ok-names.ensures.piled c.in-Err.ensures.refused)
+
+pub returns-clause-grounds : goal.returns-clause-grounds
+returns-clause-grounds g c =
+    let making = c.args.making in
+    let piles = words_of c.args.piles.now in
+    let noted = c.in-Ok.past.noted in
+    let grounds : IfErr c.make_file_set.result (λ refusal. GroundsOfMaking (HasUnfitImage
+    (IsCopyAt piles c.deref-3.result.now) (MayLinkAt (making.link ≡ true) c.deref-3.result.now) (making.link ≡ true)
+    noted.indexed.plan c.deref-4.result.now (g.F.Files.held c.make_file_set.new.files)) ⊥ refusal.fault) =
+    c.make_file_set.ensures.grounds in
+    publish_grounds making.names.now.choice making.max_bytes piles making.link _ _ c.make_file_set.result
+    c.in_ok-names.field-0 noted c.in_ok-names.ensures.piled c.in-Ok.ensures.notes
+    (rw (c.deref-3.ensures.value, c.deref-4.ensures.value) at grounds)
+
+pub returns-in_err-refuse_noted-clause-grounds : goal.returns-in_err-refuse_noted-clause-grounds
+returns-in_err-refuse_noted-clause-grounds g c =
+    let making = c.args.making in
+    let noted = c.in-Ok.past.noted in
+    let refused = c.in_err-refuse_noted.ensures in
+    let p = err_from_is_err_and c.from_residual-in_err-refuse_noted.result
+    c.from_residual-in_err-refuse_noted.ensures.1 in
+    rw (p.1, p.2) (publish_noted making.names.now.choice making.max_bytes (words_of c.args.piles.now) making.link _ _
+    c.in_ok-names.field-0 noted c.in_err-refuse_noted.field-0.0 refused.fault c.in_ok-names.ensures.piled
+    c.in-Ok.ensures.notes
+    (noted_by making.strict c.is_noted.result (IsNotedIndex noted) refused.refuses c.is_noted.ensures))

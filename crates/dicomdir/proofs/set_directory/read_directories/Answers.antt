@@ -39,7 +39,7 @@ returns-in_err-bytes-clause-due g c = λ strict.
     rw is (c.in_err-bytes.ensures.due strict)
 
 pub returns-in_err-bytes-clause-grounds : goal.returns-in_err-bytes-clause-grounds
-returns-in_err-bytes-clause-grounds g c = λ choice most given.
+returns-in_err-bytes-clause-grounds g c = λ choice most given links new.
     let is : c.from_residual.result ≡ Err c.in_err-bytes.field-0.0 = search rules in
     let folders = c.args.folders.now in
     let at = c.loop-at.at in
@@ -48,7 +48,8 @@ returns-in_err-bytes-clause-grounds g c = λ choice most given.
     let folder : get_or (words_of folders) at [] ≡ c.as_str.result.now =
     get_or-map (λ word. string_bytes word) folders at item [] (omega (arith, c.loop-at-test.true))
     ∙ sym (c.as_str.ensures.value ∙ ap (λ word. string_bytes word) c.index-folders-at.is) in
-    rw is (read_grounds choice most given (words_of folders) (g.F.Files.held c.args.files.now) at c.as_str.result.now
+    rw is (read_grounds choice most given (words_of folders) links (g.F.Files.held c.args.files.now) new at
+    c.as_str.result.now
     refusal.subject refusal.fault folder c.in_err-bytes.ensures.long
     (subst (λ (files : Option Held). GroundsOfCheck c.as_str.result.now files refusal.fault) c.loop-at.invariant.kept
     c.in_err-bytes.ensures.grounds))
