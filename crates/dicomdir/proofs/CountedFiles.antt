@@ -26,7 +26,7 @@ use Rattle.dd_version.specs.declared.parts.Parts.{Parts}
 use Rattle.dicomdir.proofs.BadNames.{answers_name, get_at, there_named}
 use Rattle.dicomdir.proofs.PickedSources.{HasVersion, picks_have}
 use Rattle.dicomdir.proofs.ReadSources.{AllCounted, AreAll, all_answers, all_past, answered, as_readings}
-use Rattle.dicomdir.proofs.SaidByFiles.{short_file}
+use Rattle.dicomdir.proofs.ShortFiles.{short_file}
 use Rattle.dicomdir.specs.FileSupply.{IsThere, contents_by, counts_at}
 use Rattle.dicomdir.specs.Indexes.{CountsPicks, limits_of, most_of_source}
 use Rattle.dicomdir.specs.ListedNames.{HavePaths}

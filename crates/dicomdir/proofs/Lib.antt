@@ -16,7 +16,6 @@ mod InPiles
 mod IndexGrounds
 mod Inspected
 mod InspectedLines
-mod KeptListed
 mod LinesLast
 mod LinesMade
 mod LinesRefused
@@ -29,20 +28,14 @@ mod Masking
 mod NameParts
 mod NamesDue
 mod NoteObjects
-mod OnePaths
 mod PastFailures
 mod PickedSources
 mod PilesMade
-mod PilesOfSources
 mod Piling
 mod PrintedLines
 mod ReadSources
 mod RefusedRuns
-mod SaidByFiles
-mod SaidByLists
-mod SaidBySets
 mod SaidLines
-mod SetAgain
 mod SetsGrounds
-mod SetsOfParts
+pub mod ShortFiles
 mod StagedSources

@@ -5,7 +5,6 @@ pub mod Faults
 pub mod FileSupply
 pub mod From
 pub mod Grounds
-pub mod Headline
 pub mod Indexes
 pub mod Inspecting
 pub mod Lines

@@ -12,7 +12,6 @@ mod file_supply;
 mod hints;
 mod index;
 mod inspecting;
-mod laws;
 mod line_flags;
 mod line_paths;
 mod line_refusal;
@@ -56,9 +55,4 @@ pub use dd_line::{Asked, LineFault, Verb, read_words};
 pub use dd_lines::{print_line, send_text};
 pub use dd_report::{Comparison, Finding, finding_of};
 pub use dd_slots::Lanes;
-pub use laws::{
-    a_merge_of_parts_is_the_whole, a_published_pile_is_the_index_of_its_sources,
-    a_set_merged_again_keeps_its_directory, each_kept_instance_is_visited_once,
-    same_versions_leave_one_directory,
-};
 pub use program::run;

@@ -13,8 +13,8 @@ use Rattle.dd_staged.specs.Sources.{Source}
 use Rattle.dd_staged.specs.Stages.{IsStage}
 use Rattle.dd_staged.proofs.Valid as stages
 use Rattle.dd_version.specs.declared.parts.Parts.{Parts}
-use Rattle.dicomdir.proofs.SaidBySets.{at_end, in_either, in_front}
-use Rattle.dicomdir.specs.Headline.{OneListSays}
+use Rattle.dicomdir_laws.proofs.SaidBySets.{at_end, in_either, in_front}
+use Rattle.dicomdir_laws.specs.Headline.{OneListSays}
 use Rattle.dicomdir.specs.Publishes.{AreLists, answers_in, sources_in}
 
 -- ---- the versions among answers

@@ -1,5 +1,5 @@
-use Rattle.dicomdir.proofs.KeptListed.{one_directory}
-use Rattle.dicomdir.proofs.laws.same_versions_leave_one_directory.Goals as goal
+use Rattle.dicomdir_laws.proofs.KeptListed.{one_directory}
+use Rattle.dicomdir_laws.proofs.laws.same_versions_leave_one_directory.Goals as goal
 
 pub returns : goal.returns
 returns c = λ verb other given others old new first last made also choice same.

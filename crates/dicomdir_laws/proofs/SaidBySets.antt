@@ -13,8 +13,8 @@ use Rattle.dd_dir.proofs.WalkFiles.{one_walk}
 use Rattle.dd_engine.specs.Merging.{AreOwn, IsOwn, SetListing, numbered, versions_in, withdrawn_in}
 use Rattle.dd_files.specs.Files.{Held}
 use Rattle.dd_version.specs.declared.parts.Parts.{Parts}
-use Rattle.dicomdir.proofs.OnePaths.{one_directory}
-use Rattle.dicomdir.specs.Headline.{Lists, Names, OneSetSays}
+use Rattle.dicomdir_laws.proofs.OnePaths.{one_directory}
+use Rattle.dicomdir_laws.specs.Headline.{Lists, Names, OneSetSays}
 use Rattle.dicomdir.specs.Merges.{AreDirectories, HasDirectory}
 
 -- ---- a set lists one thing

@@ -18,11 +18,12 @@ use Rattle.dd_pile.specs.declared.source.StageSource.{StageSource}
 use Rattle.dd_staged.specs.Sources.{IsFound, IsSource, Source}
 use Rattle.dd_staged.specs.Stages.{IsStage, stage_text}
 use Rattle.dd_version.specs.declared.parts.Parts.{Parts}
-use Rattle.dicomdir.proofs.KeptListed.{one_directory, one_list}
-use Rattle.dicomdir.proofs.SaidByFiles.{short_file, version_is}
-use Rattle.dicomdir.proofs.SaidByLists.{one_list_of}
-use Rattle.dicomdir.specs.Headline.{IsPileOf, LeaveOneDirectory, Makes, OneFileSays, PublishesSources}
-use Rattle.dicomdir.specs.Headline.{SayTheSame, SaysVersion}
+use Rattle.dicomdir_laws.proofs.KeptListed.{one_directory, one_list}
+use Rattle.dicomdir.proofs.ShortFiles.{short_file}
+use Rattle.dicomdir_laws.proofs.SaidByFiles.{version_is}
+use Rattle.dicomdir_laws.proofs.SaidByLists.{one_list_of}
+use Rattle.dicomdir_laws.specs.Headline.{IsPileOf, LeaveOneDirectory, Makes, OneFileSays, PublishesSources}
+use Rattle.dicomdir_laws.specs.Headline.{SayTheSame, SaysVersion}
 use Rattle.dicomdir.specs.Indexes.{most_of_source}
 use Rattle.dicomdir.specs.Lines.{choice_of}
 

@@ -1,5 +1,5 @@
 -- The versions that `index` reads are those of the files at its sources.
-use Rattle.std.proofs.Common.{◌≡◌, ◌<◌, ◌≤◌, ◌∙◌, ℕ, zero, suc, List, [], ◌∷◌, Option, None, Some, Ok, Err}
+use Rattle.std.proofs.Common.{◌≡◌, ◌<◌, ◌∙◌, ℕ, zero, suc, List, [], ◌∷◌, Option, None, Some, Ok, Err}
 use Rattle.std.proofs.Common.{ap, arith, false, inl, inr, length, refl, subst, true}
 use Rattle.std.specs.Prelude.{Contains, IfErr, IfSome, IsSomeAnd, slice_get, slice_index_or}
 use Rattle.std.specs.Str.{IsUtf8}
@@ -19,7 +19,8 @@ use Rattle.dd_keys.specs.declared.fault.KeyFault.TheVariants.{File, Memory}
 use Rattle.dd_part10.specs.Memory.{SetWants}
 use Rattle.dd_part10.specs.declared.fault.FileFault.TheVariants.{Meta, Set}
 use Rattle.dd_version.specs.declared.parts.Parts.{Parts}
-use Rattle.dicomdir.specs.Headline.{OneFileSays}
+use Rattle.dicomdir_laws.specs.Headline.{OneFileSays}
+use Rattle.dicomdir.proofs.ShortFiles.{short_file}
 use Rattle.dicomdir.specs.Indexes.{AnswersName, AreRead, IsRead, NoneFailed, most_of_source}
 
 -- ---- the versions among readings
@@ -60,12 +61,6 @@ is_at (one ∷ names) zero name below is = is
 is_at (one ∷ names) (suc k) name below is = is_at names k name (omega arith) is
 
 -- ---- what one file says
-
-pub short_file : (file : List ℕ) (version : Parts) → AnswersSource most_of_source file (Ok version)
-    → length file ≤ most_of_source
-short_file file version answers =
-    let no : most_of_source < length file → ⊥ = λ long. (let e = answers.long.1 long in absurd (cc)) in
-    omega (arith, no)
 
 module _ (held : Held) (names : List Text) (name : Text) (among : Contains names name) (version : Parts) where
   says_by : (file : Option (List ℕ)) → held.bytes_at name ≡ file → IsUtf8 name

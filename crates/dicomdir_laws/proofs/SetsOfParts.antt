@@ -22,12 +22,12 @@ use Rattle.dd_files.specs.Files.{Held}
 use Rattle.dd_line.specs.declared.line.Verb.{Verb}
 use Rattle.dd_line.specs.declared.line.Verb.TheVariants.{Merge}
 use Rattle.dd_version.specs.declared.parts.Parts.{Parts}
-use Rattle.dicomdir.proofs.KeptListed.{all_left, has_taken, one_list, takes, text_of}
-use Rattle.dicomdir.proofs.OnePaths.{one_directory}
-use Rattle.dicomdir.proofs.SaidBySets.{at_end, in_either, in_front, twice}
-use Rattle.dicomdir.proofs.SetAgain.{one_left, text_again}
-use Rattle.dicomdir.specs.Headline.{IsSaidBy, IsSetOf, LeaveOneDirectory, LeavesDirectory, Makes, MergesParts}
-use Rattle.dicomdir.specs.Headline.{Run, SaysVersion}
+use Rattle.dicomdir_laws.proofs.KeptListed.{all_left, has_taken, one_list, takes, text_of}
+use Rattle.dicomdir_laws.proofs.OnePaths.{one_directory}
+use Rattle.dicomdir_laws.proofs.SaidBySets.{at_end, in_either, in_front, twice}
+use Rattle.dicomdir_laws.proofs.SetAgain.{one_left, text_again}
+use Rattle.dicomdir_laws.specs.Headline.{IsSaidBy, IsSetOf, LeaveOneDirectory, LeavesDirectory, Makes, MergesParts}
+use Rattle.dicomdir_laws.specs.Headline.{Run, SaysVersion}
 use Rattle.dicomdir.specs.Lines.{choice_of}
 use Rattle.dicomdir.specs.Merges.{AreDirectories}
 

@@ -32,10 +32,10 @@ use Rattle.dd_files.specs.Files.{Held}
 use Rattle.dd_version.specs.declared.parts.Parts.{Parts}
 use Rattle.dd_line.specs.declared.line.Verb.{Verb}
 use Rattle.dd_line.specs.declared.line.Verb.TheVariants.{Merge}
-use Rattle.dicomdir.proofs.KeptListed.{one_list, takes, text_of}
-use Rattle.dicomdir.proofs.OnePaths.{one_directory}
-use Rattle.dicomdir.specs.Headline.{AreGivenFolders, LeaveOneDirectory, LeavesDirectory, Lists, Makes, MergesCopies}
-use Rattle.dicomdir.specs.Headline.{Names, OneSetSays, folder_for}
+use Rattle.dicomdir_laws.proofs.KeptListed.{one_list, takes, text_of}
+use Rattle.dicomdir_laws.proofs.OnePaths.{one_directory}
+use Rattle.dicomdir_laws.specs.Headline.{AreGivenFolders, LeaveOneDirectory, LeavesDirectory, Lists, Makes, MergesCopies}
+use Rattle.dicomdir_laws.specs.Headline.{Names, OneSetSays, folder_for}
 use Rattle.dicomdir.specs.Lines.{choice_of}
 use Rattle.dicomdir.specs.Merges.{HasDirectory}
 

@@ -1,4 +1,4 @@
-//! What holds of every run that ends with 0, over files that say what they hold, by the clauses `indexes`, `merges`,
+//! What holds of runs that end with 0, over files that say what they hold, by the clauses `indexes`, `merges`,
 //! `withdraws` and `publishes` of `run`. Each function states a law, and does nothing.
 
 ghost use Rattle.std.specs.Prelude.{◌≡◌, List};
@@ -6,8 +6,8 @@ ghost use Rattle.clap.specs.Words.{Row};
 ghost use Rattle.dd_files.specs.Files.{Held};
 ghost use Rattle.dd_line.specs.declared.line.Verb.{Verb};
 ghost use Rattle.dd_line.specs.declared.line.Verb.TheVariants.{Index, Merge, Publish};
-ghost use Rattle.dicomdir.specs.Headline.{LeaveOneDirectory, ListsKept, Makes, MergesCopies, MergesParts};
-ghost use Rattle.dicomdir.specs.Headline.{PublishesSources, SayTheSame};
+ghost use Rattle.dicomdir_laws.specs.Headline.{LeaveOneDirectory, ListsKept, Makes, MergesCopies, MergesParts};
+ghost use Rattle.dicomdir_laws.specs.Headline.{PublishesSources, SayTheSame};
 ghost use Rattle.dicomdir.specs.Lines.{choice_of};
 
 /// Proves that two runs leave the same bytes at OUT/DICOMDIR where what they read says the same versions and withdraws

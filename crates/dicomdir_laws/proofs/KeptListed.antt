@@ -28,12 +28,12 @@ use Rattle.dd_line.specs.Requests.{IsOnly}
 use Rattle.dd_line.specs.declared.line.Verb.{Verb}
 use Rattle.dd_line.specs.declared.line.Verb.TheVariants.{Check, Index, List as ListSet, Merge, Publish, Stage, Withdraw}
 use Rattle.dd_version.specs.declared.parts.Parts.{Parts}
-use Rattle.dicomdir.proofs.SaidByFiles.{kept_of_said, said_of_kept}
-use Rattle.dicomdir.proofs.SaidByLists.{found_says, says_found}
-use Rattle.dicomdir.proofs.SaidBySets.{at_end, in_either, in_front, listed_says, named_says, says_listed, says_named}
-use Rattle.dicomdir.specs.Headline.{AreGivenFolders, LeaveOneDirectory, LeavesDirectory, ListsKept}
-use Rattle.dicomdir.specs.Headline.{Lists, Makes, Names, OneFileSays, OneListSays, OneSetSays, SayTheSame}
-use Rattle.dicomdir.specs.Headline.{SaysVersion, Withdraws, folder_for}
+use Rattle.dicomdir_laws.proofs.SaidByFiles.{kept_of_said, said_of_kept}
+use Rattle.dicomdir_laws.proofs.SaidByLists.{found_says, says_found}
+use Rattle.dicomdir_laws.proofs.SaidBySets.{at_end, in_either, in_front, listed_says, named_says, says_listed, says_named}
+use Rattle.dicomdir_laws.specs.Headline.{AreGivenFolders, LeaveOneDirectory, LeavesDirectory, ListsKept}
+use Rattle.dicomdir_laws.specs.Headline.{Lists, Makes, Names, OneFileSays, OneListSays, OneSetSays, SayTheSame}
+use Rattle.dicomdir_laws.specs.Headline.{SaysVersion, Withdraws, folder_for}
 use Rattle.dicomdir.specs.Lines.{IndexesRows, MergesRows, PublishesRows, WithdrawsRows, choice_of}
 use Rattle.dicomdir.specs.ListedNames.{AreSources, parts}
 use Rattle.dd_file_set.specs.Made.{RealisesPlan, SaysPlan}

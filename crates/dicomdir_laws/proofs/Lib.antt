@@ -1,0 +1,8 @@
+mod KeptListed
+mod OnePaths
+mod PilesOfSources
+mod SaidByFiles
+mod SaidByLists
+mod SaidBySets
+mod SetAgain
+mod SetsOfParts
