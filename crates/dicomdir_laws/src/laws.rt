@@ -1,4 +1,4 @@
-//! What holds of runs that end with 0, over files that say what they hold, by the clauses `indexes`, `merges`,
+//! What holds of every run that ends with 0, over files that say what they hold, by the clauses `indexes`, `merges`,
 //! `withdraws` and `publishes` of `run`. Each function states a law, and does nothing.
 
 ghost use Rattle.std.specs.Prelude.{◌≡◌, List};
