@@ -2,3 +2,4 @@ pub mod Growing
 pub mod HeadFiles
 pub mod Inheriting
 pub mod Judged
+mod SpelledNames

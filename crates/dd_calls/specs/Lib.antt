@@ -5,5 +5,6 @@ pub mod Findings
 pub mod Heads
 pub mod Rows
 pub mod Sizes
+pub mod Spelled
 pub mod Standings
 pub mod Texts

@@ -1,6 +1,6 @@
 //! What programs in other languages ask of directories: functions over bytes and tables that they hold.
 //!
-//! What it promises stands at `list`, `rows`, `front` and `findings`. Each is for any bytes and any room.
+//! What it promises stands at `list`, `rows`, `front`, `findings` and `spellings`. Each is for any bytes and any room.
 #![tactic(auto)]
 
 mod agreements;
@@ -14,6 +14,7 @@ mod given_file;
 mod judging;
 mod laws;
 mod listing;
+mod spelling;
 mod standing;
 mod table;
 mod texts;
@@ -28,5 +29,6 @@ pub use finding_row::FindingRow;
 pub use given_file::GivenFile;
 pub use laws::heads_stand_for_files;
 pub use listing::{give, list};
+pub use spelling::spellings;
 pub use table::Row;
 pub use texts::Texts;

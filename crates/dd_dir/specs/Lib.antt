@@ -1,7 +1,6 @@
 pub mod Deriving
 pub mod Directories
 pub mod ForestViews
-pub mod Hashing
 pub mod Keyed
 pub mod Own
 pub mod OwnVersions

@@ -9,10 +9,10 @@ ghost use Rattle.dd_dir.specs.Deriving.{derived_label, derived_refusal, harmony_
 ghost use Rattle.dd_dir.specs.Directories.{derived, directory_of, unnamed_label};
 ghost use Rattle.sha2.specs.Sha256.{sha256};
 
-use crate::digester::Digester;
 use crate::directory_writing::write_directory;
 use dd_catalogue::{Catalogue, Harmony};
 use dd_elem::{SetId, Uid};
+use dd_hashing::Digester;
 use dd_layout::{Label, Limits, Plan, PlanFault, lay_out, lay_out_harmony};
 use std::alloc::Global;
 

@@ -9,7 +9,6 @@
 mod buffer;
 mod cells;
 mod derived;
-mod digester;
 mod directory;
 mod directory_walk;
 mod directory_writing;
@@ -18,7 +17,6 @@ mod forest;
 mod laws;
 mod links;
 mod listed_images;
-mod message;
 mod own;
 mod own_checks;
 mod own_fault;

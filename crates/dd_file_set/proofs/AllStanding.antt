@@ -37,7 +37,8 @@ some_bytes None P some = absurd some
 some_bytes (Some bytes) P some = (bytes, refl, some)
 
 -- the image is the one new file
-record OneStands (From MayLink : List ℕ → Type 0) (folder : List ℕ) (file : Ranks) (planned : Parts) (old : Held)
+record OneStands (From MayLink : List ℕ → Type 0) (said : Option Parts) (folder : List ℕ) (file : Ranks)
+    (planned : Parts) (old : Held)
     (new : Option Held) : Type 0 where
   after : Held
   is : new ≡ Some after
@@ -47,13 +48,14 @@ record OneStands (From MayLink : List ℕ → Type 0) (folder : List ℕ) (file 
   bytes : List ℕ
   made : after.bytes_at ≡ with_file path (Some bytes) old.bytes_at
   of_pick : HasAtOne From bytes (Some old)
-  kind : IsFileAs planned AsPlanned bytes ⊎ MayLink bytes
+  kind : IsFileAs planned said AsPlanned bytes ⊎ MayLink bytes
   whole : AddsWhole (IsImagePath folder) old after
 
-one_stands : (From MayLink : List ℕ → Type 0) (folder : List ℕ) (file : Ranks) (planned : Parts) (old : Held)
-    (new : Option Held) → MakesImage From MayLink folder file planned (Some old) new
-    → OneStands From MayLink folder file planned old new
-one_stands From MayLink folder file planned old new (inl copied) = record {
+one_stands : (From MayLink : List ℕ → Type 0) (said : Option Parts) (folder : List ℕ) (file : Ranks) (planned : Parts)
+    (old : Held)
+    (new : Option Held) → MakesImage From MayLink said folder file planned (Some old) new
+    → OneStands From MayLink said folder file planned old new
+one_stands From MayLink said folder file planned old new (inl copied) = record {
   after = published copied.path copied.bytes old;
   is = copied.made;
   path = copied.path;
@@ -66,7 +68,7 @@ one_stands From MayLink folder file planned old new (inl copied) = record {
   whole = whole_published (IsImagePath folder) copied.path copied.bytes old
       (record { file = file; ranks = copied.ranks; place = copied.place }) copied.free;
 }
-one_stands From MayLink folder file planned old new (inr link) =
+one_stands From MayLink said folder file planned old new (inr link) =
     let some = some_bytes (old.bytes_at link.from) MayLink link.there in
     record {
       after = linked link.from link.path old;
@@ -90,19 +92,20 @@ has_later From bytes old new keeps at =
 
 -- ---- the images
 
-module _ {P : Type 0} (From MayLink : P → List ℕ → Type 0) (folder : List ℕ) (versions : List Parts) (first : Held)
+module _ {P : Type 0} (From MayLink : P → List ℕ → Type 0) (said : P → Option Parts) (folder : List ℕ)
+    (versions : List Parts) (first : Held)
   where
     -- the images of these records stand, what stood before does, and nothing else was made
     record RowsStand (rows : List (PlanRecord × P)) (old : Held) (new : Option Held) : Type 0 where
       after : Held
       is : new ≡ Some after
       stays : KeepsAll old after
-      images : AllStand From MayLink folder versions rows first after
+      images : AllStand From MayLink said folder versions rows first after
       others : (other : List ℕ) → ¬ IsOfOne folder rows other → after.bytes_at other ≡ old.bytes_at other
       whole : AddsWhole (IsImagePath folder) old after
 
     rows_stand : (rows : List (PlanRecord × P)) (old : Held) (new : Option Held) → KeepsAll first old
-        → MakesRows From MayLink folder versions rows (Some old) new → RowsStand rows old new
+        → MakesRows From MayLink said folder versions rows (Some old) new → RowsStand rows old new
     rows_stand [] old new keeps made = record {
       after = old;
       is = made;
@@ -113,11 +116,12 @@ module _ {P : Type 0} (From MayLink : P → List ℕ → Type 0) (folder : List 
     }
     rows_stand (row ∷ rows) old new keeps made =
         let row_made = made.1 in
-        let one = one_stands (From row.1) (MayLink row.1) folder row_made.file row_made.planned old made.0 row_made.made in
+        let one = one_stands (From row.1) (MayLink row.1)
+        (said row.1) folder row_made.file row_made.planned old made.0 row_made.made in
         let mid = one.after in
         let step = new_keeps old mid one.path (Some one.bytes) one.made one.free in
         let rest = rows_stand rows mid new (all_then first old mid keeps step)
-        (subst (λ (held : Option Held). MakesRows From MayLink folder versions rows held new) one.is made.2) in
+        (subst (λ (held : Option Held). MakesRows From MayLink said folder versions rows held new) one.is made.2) in
         record {
           after = rest.after;
           is = rest.is;
@@ -153,10 +157,11 @@ module _ {P : Type 0} (From MayLink : P → List ℕ → Type 0) (folder : List 
         }
 
 -- the images stand also where one more file is made
-module _ {P : Type 0} (From MayLink : P → List ℕ → Type 0) (folder : List ℕ) (versions : List Parts)
+module _ {P : Type 0} (From MayLink : P → List ℕ → Type 0) (said : P → Option Parts) (folder : List ℕ)
+    (versions : List Parts)
     (first old new : Held) (keeps : KeepsAll old new) where
-  still_stand : (rows : List (PlanRecord × P)) → AllStand From MayLink folder versions rows first old
-      → AllStand From MayLink folder versions rows first new
+  still_stand : (rows : List (PlanRecord × P)) → AllStand From MayLink said folder versions rows first old
+      → AllStand From MayLink said folder versions rows first new
   still_stand [] stand = tt
   still_stand (row ∷ rows) stand = (
     record {
@@ -177,20 +182,23 @@ module _ {P : Type 0} (From MayLink : P → List ℕ → Type 0) (folder : List 
 
 -- ---- files that do not say what they hold
 
-one_unsaid : (From MayLink : List ℕ → Type 0) (folder : List ℕ) (file : Ranks) (planned : Parts) (new : Option Held)
-    → MakesImage From MayLink folder file planned None new → new ≡ None
-one_unsaid From MayLink folder file planned new (inl copied) = copied.made
-one_unsaid From MayLink folder file planned new (inr link) = link.made
+one_unsaid : (From MayLink : List ℕ → Type 0) (said : Option Parts) (folder : List ℕ) (file : Ranks) (planned : Parts)
+    (new : Option Held)
+    → MakesImage From MayLink said folder file planned None new → new ≡ None
+one_unsaid From MayLink said folder file planned new (inl copied) = copied.made
+one_unsaid From MayLink said folder file planned new (inr link) = link.made
 
-pub rows_unsaid : {P : Type 0} (From MayLink : P → List ℕ → Type 0) (folder : List ℕ) (versions : List Parts)
-    (rows : List (PlanRecord × P)) (new : Option Held) → MakesRows From MayLink folder versions rows None new
+pub rows_unsaid : {P : Type 0} (From MayLink : P → List ℕ → Type 0) (said : P → Option Parts) (folder : List ℕ)
+    (versions : List Parts)
+    (rows : List (PlanRecord × P)) (new : Option Held) → MakesRows From MayLink said folder versions rows None new
     → new ≡ None
-rows_unsaid From MayLink folder versions [] new made = made
-rows_unsaid From MayLink folder versions (row ∷ rows) new made =
+rows_unsaid From MayLink said folder versions [] new made = made
+rows_unsaid From MayLink said folder versions (row ∷ rows) new made =
     let row_made = made.1 in
-    let none = one_unsaid (From row.1) (MayLink row.1) folder row_made.file row_made.planned made.0 row_made.made in
-    rows_unsaid From MayLink folder versions rows new
-    (subst (λ (held : Option Held). MakesRows From MayLink folder versions rows held new) none made.2)
+    let none = one_unsaid (From row.1) (MayLink row.1) (said row.1) folder row_made.file row_made.planned made.0
+    row_made.made in
+    rows_unsaid From MayLink said folder versions rows new
+    (subst (λ (held : Option Held). MakesRows From MayLink said folder versions rows held new) none made.2)
 
 -- ---- all of it
 
@@ -224,26 +232,27 @@ directory_whole folder path text old mid whole free =
       whole = whole.whole;
     }
 
-pub stands_whole : {P : Type 0} (From MayLink : P → List ℕ → Type 0) (folder : List ℕ) (plan : Layout)
-    (picks : List P) (old new : Option Held) → MakesFileSet From MayLink folder plan picks old new
-    → IfSaid (StandsWhole From MayLink folder plan picks) old new
-stands_whole From MayLink folder plan picks None new made =
+pub stands_whole : {P : Type 0} (From MayLink : P → List ℕ → Type 0) (said : P → Option Parts) (folder : List ℕ)
+    (plan : Layout)
+    (picks : List P) (old new : Option Held) → MakesFileSet From MayLink said folder plan picks old new
+    → IfSaid (StandsWhole From MayLink said folder plan picks) old new
+stands_whole From MayLink said folder plan picks None new made =
     let text = directory_of plan.label plan.versions plan.withdrawn in
     made.directory ∙ ap (λ (held : Option Held). option_map (with_directory made.path text) held)
-    (rows_unsaid From MayLink folder plan.versions (picked_rows plan picks) made.copied made.images)
-stands_whole From MayLink folder plan picks (Some old) new made =
+    (rows_unsaid From MayLink said folder plan.versions (picked_rows plan picks) made.copied made.images)
+stands_whole From MayLink said folder plan picks (Some old) new made =
     let rows = picked_rows plan picks in
     let same : KeepsAll old old = record { stays = λ path bytes stood. stood } in
-    let all = rows_stand From MayLink folder plan.versions old rows old made.copied same made.images in
+    let all = rows_stand From MayLink said folder plan.versions old rows old made.copied same made.images in
     let text = directory_of plan.label plan.versions plan.withdrawn in
     let free = subst (λ (held : Option Held). IsFree made.path held) all.is made.free in
     let end = with_directory made.path text all.after in
     let keeps = new_keeps all.after end made.path (Some text) refl free in
-    said_by (StandsWhole From MayLink folder plan picks) old end new
+    said_by (StandsWhole From MayLink said folder plan picks) old end new
     (made.directory ∙ ap (λ (held : Option Held). option_map (with_directory made.path text) held) all.is)
     (record {
       stays = all_then old all.after end all.stays keeps;
-      images = still_stand From MayLink folder plan.versions old all.after end keeps rows all.images;
+      images = still_stand From MayLink said folder plan.versions old all.after end keeps rows all.images;
       path = made.path;
       place = made.place;
       free = free_before old all.after made.path all.stays free;
@@ -261,10 +270,12 @@ pub record ImagesAdd (folder : List ℕ) (old : Held) (new : Option Held) : Type
   pub is : new ≡ Some after
   pub whole : AddsWhole (IsImagePath folder) old after
 
-pub images_add : {P : Type 0} (From MayLink : P → List ℕ → Type 0) (folder : List ℕ) (plan : Layout)
+pub images_add : {P : Type 0} (From MayLink : P → List ℕ → Type 0) (said : P → Option Parts) (folder : List ℕ)
+    (plan : Layout)
     (picks : List P) (old : Held) (new : Option Held)
-    → MakesRows From MayLink folder plan.versions (picked_rows plan picks) (Some old) new → ImagesAdd folder old new
-images_add From MayLink folder plan picks old new made =
+    → MakesRows From MayLink said folder plan.versions (picked_rows plan picks) (Some old) new
+    → ImagesAdd folder old new
+images_add From MayLink said folder plan picks old new made =
     let same : KeepsAll old old = record { stays = λ path bytes stood. stood } in
-    let all = rows_stand From MayLink folder plan.versions old (picked_rows plan picks) old new same made in
+    let all = rows_stand From MayLink said folder plan.versions old (picked_rows plan picks) old new same made in
     record { after = all.after; is = all.is; whole = all.whole }

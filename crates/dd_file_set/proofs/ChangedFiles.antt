@@ -56,18 +56,18 @@ refused_by (Err refusal) E F by is = changed_by E F refusal.fault by is
 
 -- ---- one file
 
-module _ (From MayLink : List ℕ → Type 0) (GivesLinks : Type 0) (planned : Parts) where
+module _ (From MayLink : List ℕ → Type 0) (said : Option Parts) (GivesLinks : Type 0) (planned : Parts) where
   abbrev Unfit : Option Held → Type 0
-  Unfit files = HasUnfit From MayLink GivesLinks planned files
+  Unfit files = HasUnfit From MayLink said GivesLinks planned files
 
   -- it was read whole, and is no file of the planned version
   pub other_file : (files : Option Held) (bytes : List ℕ) (filed : Filed) → HasAtOne From bytes files
-      → (IsFileAs planned AsPlanned bytes → filed ≡ AsPlanned) → filed ≢ AsPlanned → Unfit files
+      → (IsFileAs planned said AsPlanned bytes → filed ≡ AsPlanned) → filed ≢ AsPlanned → Unfit files
   other_file None bytes filed one same other = record { from = one.from; picked = one.picked; unfit = tt }
   other_file (Some held) bytes filed one same other = record {
     from = one.from;
     picked = one.picked;
-    unfit = subst (λ (file : Option (List ℕ)). IsSomeAnd file (IsUnfit planned GivesLinks MayLink)) (sym one.there)
+    unfit = subst (λ (file : Option (List ℕ)). IsSomeAnd file (IsUnfit planned said GivesLinks MayLink)) (sym one.there)
         (inr (inl (λ is. other (same is))));
   }
 
@@ -83,7 +83,7 @@ module _ (From MayLink : List ℕ → Type 0) (GivesLinks : Type 0) (planned : P
         (subst (λ (first : Option (List ℕ)). Consumes first left given) opened.1 taken);
   } where
     go : (file left : Option (List ℕ)) → IsSome file → Consumes file left given
-        → IsSomeAnd file (IsUnfit planned GivesLinks MayLink)
+        → IsSomeAnd file (IsUnfit planned said GivesLinks MayLink)
     go None left there took = absurd (cc)
     go (Some bytes) None there took = absurd took
     go (Some bytes) (Some rest) there took =
@@ -96,7 +96,7 @@ module _ (From MayLink : List ℕ → Type 0) (GivesLinks : Type 0) (planned : P
   unlinked_file from files MayNot picked gives not has = record {
     from = from;
     picked = picked;
-    unfit = bytes_by MayNot (IsUnfit planned GivesLinks MayLink) from files
+    unfit = bytes_by MayNot (IsUnfit planned said GivesLinks MayLink) from files
         (λ bytes may_not. inr (inr (gives, not bytes may_not))) has;
   }
 
@@ -108,10 +108,11 @@ too_long writer old new fault limit given left before after is refused =
     (subst (λ (one : FilingFault). IsRefusedCopy writer old new one limit given left before after) is refused).0.0
 
 -- what was read ahead is not
-pub never_ahead : {W : Type 0} (writer : WriteOf W) (old new : W) (planned : Parts) (fault : FilingFault) (file : Taken)
-    → fault ≡ copy.Changed → IsSentAhead writer old new planned (Err fault) file → ⊥
-never_ahead writer old new planned fault file is sent =
-    subst (λ (one : FilingFault). IsSentAhead writer old new planned (Err one) file) is sent
+pub never_ahead : {W : Type 0} (writer : WriteOf W) (old new : W) (planned : Parts) (said : Option Parts)
+    (fault : FilingFault) (file : Taken)
+    → fault ≡ copy.Changed → IsSentAhead writer old new planned said (Err fault) file → ⊥
+never_ahead writer old new planned said fault file is sent =
+    subst (λ (one : FilingFault). IsSentAhead writer old new planned said (Err one) file) is sent
 
 -- ---- a record and its pick
 
@@ -151,37 +152,41 @@ row_among (row ∷ rows) all left (suc at) d pick within some rest first =
     (is_some row.file) all rest
 
 -- a file has the bytes that it had
-unfit_later : (From MayLink : List ℕ → Type 0) (GivesLinks : Type 0) (planned : Parts) (old new : Held)
-    → KeepsAll old new → HasUnfit From MayLink GivesLinks planned (Some old)
-    → HasUnfit From MayLink GivesLinks planned (Some new)
-unfit_later From MayLink GivesLinks planned old new keeps has = record {
+unfit_later : (From MayLink : List ℕ → Type 0) (said : Option Parts) (GivesLinks : Type 0) (planned : Parts)
+    (old new : Held)
+    → KeepsAll old new → HasUnfit From MayLink said GivesLinks planned (Some old)
+    → HasUnfit From MayLink said GivesLinks planned (Some new)
+unfit_later From MayLink said GivesLinks planned old new keeps has = record {
   from = has.from;
   picked = has.picked;
   unfit = go (old.bytes_at has.from) refl has.unfit;
 } where
   go : (file : Option (List ℕ)) → old.bytes_at has.from ≡ file
-      → IsSomeAnd file (IsUnfit planned GivesLinks MayLink)
-      → IsSomeAnd (new.bytes_at has.from) (IsUnfit planned GivesLinks MayLink)
+      → IsSomeAnd file (IsUnfit planned said GivesLinks MayLink)
+      → IsSomeAnd (new.bytes_at has.from) (IsUnfit planned said GivesLinks MayLink)
   go None is some = absurd some
   go (Some bytes) is some =
-      subst (λ (file : Option (List ℕ)). IsSomeAnd file (IsUnfit planned GivesLinks MayLink))
+      subst (λ (file : Option (List ℕ)). IsSomeAnd file (IsUnfit planned said GivesLinks MayLink))
       (sym (keeps.stays has.from bytes is)) some
 
-unfit_said : (From MayLink : List ℕ → Type 0) (GivesLinks : Type 0) (planned : Parts) (MayBe : List ℕ → Type 0)
-    (old new : Option Held) → IfSaid (Adds MayBe) old new → HasUnfit From MayLink GivesLinks planned old
-    → HasUnfit From MayLink GivesLinks planned new
-unfit_said From MayLink GivesLinks planned MayBe None new adds has =
-    subst (λ (files : Option Held). HasUnfit From MayLink GivesLinks planned files) (sym adds) has
-unfit_said From MayLink GivesLinks planned MayBe (Some old) None adds has = absurd adds
-unfit_said From MayLink GivesLinks planned MayBe (Some old) (Some new) adds has =
-    unfit_later From MayLink GivesLinks planned old new adds.stays has
+unfit_said : (From MayLink : List ℕ → Type 0) (said : Option Parts) (GivesLinks : Type 0) (planned : Parts)
+    (MayBe : List ℕ → Type 0)
+    (old new : Option Held) → IfSaid (Adds MayBe) old new → HasUnfit From MayLink said GivesLinks planned old
+    → HasUnfit From MayLink said GivesLinks planned new
+unfit_said From MayLink said GivesLinks planned MayBe None new adds has =
+    subst (λ (files : Option Held). HasUnfit From MayLink said GivesLinks planned files) (sym adds) has
+unfit_said From MayLink said GivesLinks planned MayBe (Some old) None adds has = absurd adds
+unfit_said From MayLink said GivesLinks planned MayBe (Some old) (Some new) adds has =
+    unfit_later From MayLink said GivesLinks planned old new adds.stays has
 
-module _ {P : Type 0} (From MayLink : P → List ℕ → Type 0) (GivesLinks : Type 0) (versions : List Parts) where
+module _ {P : Type 0} (From MayLink : P → List ℕ → Type 0) (said : P → Option Parts) (GivesLinks : Type 0)
+    (versions : List Parts) where
   -- the first of the picks
   pub unfit_first : (row : PlanRecord) (picks : List P) (d : P) (planned : Parts) (files : Option Held)
       → 1 ≤ length picks → IsSome row.file → slice_get versions row.of ≡ Some planned
-      → HasUnfit (From (get_or picks 0 d)) (MayLink (get_or picks 0 d)) GivesLinks planned files
-      → HasUnfitFirst From MayLink GivesLinks versions row picks files
+      → HasUnfit (From (get_or picks 0 d)) (MayLink (get_or picks 0 d))
+      (said (get_or picks 0 d)) GivesLinks planned files
+      → HasUnfitFirst From MayLink said GivesLinks versions row picks files
   unfit_first row [] d planned files some file of has = absurd (omega (arith, some))
   unfit_first row (pick ∷ picks) d planned files some file of has = record {
     file = file;
@@ -193,14 +198,15 @@ module _ {P : Type 0} (From MayLink : P → List ℕ → Type 0) (GivesLinks : T
   -- it is the pick of its record
   pub unfit_pick : (rows : List PlanRecord) (all left : List P) (at : ℕ) (d : PlanRecord) (MayBe : List ℕ → Type 0)
       (old new : Option Held) → at < length rows → left ≡ drop (length (named (take at rows))) all
-      → IfSaid (Adds MayBe) old new → HasUnfitFirst From MayLink GivesLinks versions (get_or rows at d) left old
-      → HasUnfitPick From MayLink GivesLinks versions (zip (named rows) all) new
+      → IfSaid (Adds MayBe) old new → HasUnfitFirst From MayLink said GivesLinks versions (get_or rows at d) left old
+      → HasUnfitPick From MayLink said GivesLinks versions (zip (named rows) all) new
   unfit_pick rows all left at d MayBe old new within rest adds is = record {
     row = (get_or rows at d, is.pick);
     among = row_among rows all left at d is.pick within is.file rest is.first;
     has = record {
       planned = is.has.planned;
       of = is.has.of;
-      has = unfit_said (From is.pick) (MayLink is.pick) GivesLinks is.has.planned MayBe old new adds is.has.has;
+      has = unfit_said (From is.pick) (MayLink is.pick) (said is.pick) GivesLinks is.has.planned MayBe old new adds
+          is.has.has;
     };
   }

@@ -53,12 +53,12 @@ stopped writer text taken old new stops = has_failed (writer.failures old) (writ
 
 -- of a file that was read ahead
 pub ahead_due : {R W : Type 0} (reads : ReadOf R) (writer : WriteOf W) (old new : W) (planned : Parts)
-    (of : FilingFault) (file : Taken) → IsSentAhead writer old new planned (Err of) file
+    (said : Option Parts) (of : FilingFault) (file : Taken) → IsSentAhead writer old new planned said (Err of) file
     → (file.whole ≡ false → HasFailedReader reads) → IsCopyDue reads (writer.failures new) of
-ahead_due reads writer old new planned copy.Unread file h due = due h.0
-ahead_due reads writer old new planned copy.Unsent file h due = stopped writer file.bytes h.0 old new h.1
-ahead_due reads writer old new planned copy.Memory file h due = absurd h
-ahead_due reads writer old new planned copy.Changed file h due = absurd h
+ahead_due reads writer old new planned said copy.Unread file h due = due h.0
+ahead_due reads writer old new planned said copy.Unsent file h due = stopped writer file.bytes h.0 old new h.1
+ahead_due reads writer old new planned said copy.Memory file h due = absurd h
+ahead_due reads writer old new planned said copy.Changed file h due = absurd h
 
 -- of a file that is read while it is written
 pub streamed_due : {R W : Type 0} (reads : ReadOf R) (writer : WriteOf W) (old new : W)

@@ -15,12 +15,13 @@ use Rattle.dd_stream.specs.declared.write_fault.WriteFault.TheVariants.{NotWrita
 use Rattle.dd_version.specs.declared.parts.Parts.{Parts}
 
 -- of a copy of bytes that were read ahead
-pub ahead_front : {W : Type 0} (writer : WriteOf W) (old new : W) (planned : Parts) (fault : FilingFault) (file : Taken)
-    → IsSentAhead writer old new planned (Err fault) file → Front writer old new
-ahead_front writer old new planned Unread file h = went writer file.bytes old new h.1
-ahead_front writer old new planned Unsent file h = stopped writer file.bytes h.0 old new h.1
-ahead_front writer old new planned Memory file h = absurd h
-ahead_front writer old new planned Changed file h = absurd h
+pub ahead_front : {W : Type 0} (writer : WriteOf W) (old new : W) (planned : Parts) (said : Option Parts)
+    (fault : FilingFault) (file : Taken)
+    → IsSentAhead writer old new planned said (Err fault) file → Front writer old new
+ahead_front writer old new planned said Unread file h = went writer file.bytes old new h.1
+ahead_front writer old new planned said Unsent file h = stopped writer file.bytes h.0 old new h.1
+ahead_front writer old new planned said Memory file h = absurd h
+ahead_front writer old new planned said Changed file h = absurd h
 
 -- of a copy of bytes that are read while they are written
 pub copy_front : {W : Type 0} (writer : WriteOf W) (old new : W) (fault : FilingFault) (limit : ℕ) (given : List ℕ)

@@ -16,14 +16,20 @@ abbrev pub named : List PlanRecord → List PlanRecord
 named rows = filter (λ row. is_some row.file) rows
 
 -- one more image was made after others
-rows_then : {P : Type 0} (From MayLink : P → List ℕ → Type 0) (folder : List ℕ) (versions : List Parts)
+rows_then : {P : Type 0} (From MayLink : P → List ℕ → Type 0) (said : P → Option Parts) (folder : List ℕ)
+    (versions : List Parts)
     (rows : List (PlanRecord × P)) (row : PlanRecord) (pick : P) (a b c : Option Held)
-    → MakesRows From MayLink folder versions rows a b → MakesRow (From pick) (MayLink pick) folder versions row b c
-    → MakesRows From MayLink folder versions (rows ++ (row, pick) ∷ []) a c
-rows_then From MayLink folder versions [] row pick a b c so_far made =
-    (c, subst (λ (held : Option Held). MakesRow (From pick) (MayLink pick) folder versions row held c) so_far made, refl)
-rows_then From MayLink folder versions (first ∷ rows) row pick a b c so_far made =
-    (so_far.0, so_far.1, rows_then From MayLink folder versions rows row pick so_far.0 b c so_far.2 made)
+    → MakesRows From MayLink said folder versions rows a b → MakesRow (From pick) (MayLink pick)
+    (said pick) folder versions row b c
+    → MakesRows From MayLink said folder versions (rows ++ (row, pick) ∷ []) a c
+rows_then From MayLink said folder versions [] row pick a b c so_far made = (
+  c,
+  subst (λ (held : Option Held). MakesRow (From pick) (MayLink pick) (said pick) folder versions row held c)
+      so_far made,
+  refl,
+)
+rows_then From MayLink said folder versions (first ∷ rows) row pick a b c so_far made =
+    (so_far.0, so_far.1, rows_then From MayLink said folder versions rows row pick so_far.0 b c so_far.2 made)
 
 -- ---- records, each with its pick
 
@@ -97,25 +103,30 @@ more_named rows at d file within some =
 -- ---- the images so far
 
 -- the images of the records before this place are made, and these picks are left for the others
-pub record SoFar {P : Type 0} (From MayLink : P → List ℕ → Type 0) (folder : List ℕ) (versions : List Parts)
+pub record SoFar {P : Type 0} (From MayLink : P → List ℕ → Type 0) (said : P → Option Parts) (folder : List ℕ)
+    (versions : List Parts)
     (rows : List PlanRecord) (all : List P) (at : ℕ) (left : List P) (old now : Option Held) : Type 0 where
-  pub made : MakesRows From MayLink folder versions (zip (named (take at rows)) all) old now
+  pub made : MakesRows From MayLink said folder versions (zip (named (take at rows)) all) old now
   pub rest : left ≡ drop (length (named (take at rows))) all
 
-pub none_yet : {P : Type 0} (From MayLink : P → List ℕ → Type 0) (folder : List ℕ) (versions : List Parts)
-    (rows : List PlanRecord) (all : List P) (held : Option Held) → SoFar From MayLink folder versions rows all 0 all held held
-none_yet From MayLink folder versions rows all held = record { made = refl; rest = refl }
+pub none_yet : {P : Type 0} (From MayLink : P → List ℕ → Type 0) (said : P → Option Parts) (folder : List ℕ)
+    (versions : List Parts)
+    (rows : List PlanRecord) (all : List P) (held : Option Held)
+    → SoFar From MayLink said folder versions rows all 0 all held held
+none_yet From MayLink said folder versions rows all held = record { made = refl; rest = refl }
 
-so_far_by : {P : Type 0} (From MayLink : P → List ℕ → Type 0) (folder : List ℕ) (versions : List Parts)
+so_far_by : {P : Type 0} (From MayLink : P → List ℕ → Type 0) (said : P → Option Parts) (folder : List ℕ)
+    (versions : List Parts)
     (rows : List PlanRecord) (all : List P) (at : ℕ) (d : PlanRecord) (file : Option Ranks) (left later : List P)
     (a b c : Option Held) → at < length rows → (get_or rows at d).file ≡ file
-    → CopiesTo From MayLink folder versions (get_or rows at d) file left later b c
-    → SoFar From MayLink folder versions rows all at left a b → SoFar From MayLink folder versions rows all (at + 1) later a c
-so_far_by From MayLink folder versions rows all at d None left later a b c within is copied so_far = record {
+    → CopiesTo From MayLink said folder versions (get_or rows at d) file left later b c
+    → SoFar From MayLink said folder versions rows all at left a b → SoFar From MayLink said folder versions rows all
+    (at + 1) later a c
+so_far_by From MayLink said folder versions rows all at d None left later a b c within is copied so_far = record {
   made = rw (more_unnamed rows at d within is, copied.1) so_far.made;
   rest = rw (more_unnamed rows at d within is) (copied.0 ∙ so_far.rest);
 }
-so_far_by From MayLink folder versions rows all at d (Some file) [] later a b c within is copied so_far =
+so_far_by From MayLink said folder versions rows all at d (Some file) [] later a b c within is copied so_far =
     let front = named (take at rows) in
     let row = get_or rows at d in
     let none = sym so_far.rest in
@@ -123,47 +134,56 @@ so_far_by From MayLink folder versions rows all at d (Some file) [] later a b c 
       made = rw (more_named rows at d file within is, copied.1, zip_full front (row ∷ []) all none) so_far.made;
       rest = rw (more_named rows at d file within is) (copied.0 ∙ sym (drop_full front (row ∷ []) all none));
     }
-so_far_by From MayLink folder versions rows all at d (Some file) (pick ∷ more) later a b c within is copied so_far =
+so_far_by From MayLink said folder versions rows all at d (Some file)
+    (pick ∷ more) later a b c within is copied so_far =
     let front = named (take at rows) in
     let row = get_or rows at d in
     let some = sym so_far.rest in
     record {
       made = rw (more_named rows at d file within is, zip_more front row all pick more some)
-          (rows_then From MayLink folder versions (zip front all) row pick a b c so_far.made copied.1);
+          (rows_then From MayLink said folder versions (zip front all) row pick a b c so_far.made copied.1);
       rest = rw (more_named rows at d file within is) (copied.0 ∙ drop_more front row all pick more some);
     }
 
 -- after one more record, the same holds
-pub so_far_more : {P : Type 0} (From MayLink : P → List ℕ → Type 0) (folder : List ℕ) (versions : List Parts)
+pub so_far_more : {P : Type 0} (From MayLink : P → List ℕ → Type 0) (said : P → Option Parts) (folder : List ℕ)
+    (versions : List Parts)
     (rows : List PlanRecord) (all : List P) (at : ℕ) (d : PlanRecord) (left later : List P) (a b c : Option Held)
-    → at < length rows → Copies From MayLink folder versions (get_or rows at d) left later b c
-    → SoFar From MayLink folder versions rows all at left a b → SoFar From MayLink folder versions rows all (at + 1) later a c
-so_far_more From MayLink folder versions rows all at d left later a b c within copied so_far =
-    so_far_by From MayLink folder versions rows all at d (get_or rows at d).file left later a b c within refl copied so_far
+    → at < length rows → Copies From MayLink said folder versions (get_or rows at d) left later b c
+    → SoFar From MayLink said folder versions rows all at left a b → SoFar From MayLink said folder versions rows all
+    (at + 1) later a c
+so_far_more From MayLink said folder versions rows all at d left later a b c within copied so_far =
+    so_far_by From MayLink said folder versions rows all at d
+    (get_or rows at d).file left later a b c within refl copied so_far
 
 -- after all records, the images of all of them are made
-pub made_all : {P : Type 0} (From MayLink : P → List ℕ → Type 0) (folder : List ℕ) (versions : List Parts)
+pub made_all : {P : Type 0} (From MayLink : P → List ℕ → Type 0) (said : P → Option Parts) (folder : List ℕ)
+    (versions : List Parts)
     (rows : List PlanRecord) (all : List P) (at : ℕ) (left : List P) (a b : Option Held) → length rows ≤ at
-    → SoFar From MayLink folder versions rows all at left a b → MakesImages From MayLink folder versions rows all a b
-made_all From MayLink folder versions rows all at left a b past so_far =
-    subst (λ (xs : List PlanRecord). MakesRows From MayLink folder versions (zip (named xs) all) a b) (take_all at rows past)
+    → SoFar From MayLink said folder versions rows all at left a b
+    → MakesImages From MayLink said folder versions rows all a b
+made_all From MayLink said folder versions rows all at left a b past so_far =
+    subst (λ (xs : List PlanRecord). MakesRows From MayLink said folder versions (zip (named xs) all) a b)
+    (take_all at rows past)
     so_far.made
 
 -- ---- one record
 
-copied_one : {P : Type 0} (From MayLink : P → List ℕ → Type 0) (folder : List ℕ) (versions : List Parts) (row : PlanRecord)
+copied_one : {P : Type 0} (From MayLink : P → List ℕ → Type 0) (said : P → Option Parts) (folder : List ℕ)
+    (versions : List Parts) (row : PlanRecord)
     (file : Option Ranks) (f : Ranks) (picks : List P) (d : P) (a b : Option Held) → file ≡ Some f → 1 ≤ length picks
-    → MakesRow (From (get_or picks 0 d)) (MayLink (get_or picks 0 d)) folder versions row a b
-    → CopiesTo From MayLink folder versions row file picks (take (length picks - 1) (drop 1 picks)) a b
-copied_one From MayLink folder versions row None f picks d a b some one made = absurd (cc)
-copied_one From MayLink folder versions row (Some file) f [] d a b some one made = absurd (omega (arith, one))
-copied_one From MayLink folder versions row (Some file) f (pick ∷ more) d a b some one made =
+    → MakesRow (From (get_or picks 0 d)) (MayLink (get_or picks 0 d)) (said (get_or picks 0 d)) folder versions row a b
+    → CopiesTo From MayLink said folder versions row file picks (take (length picks - 1) (drop 1 picks)) a b
+copied_one From MayLink said folder versions row None f picks d a b some one made = absurd (cc)
+copied_one From MayLink said folder versions row (Some file) f [] d a b some one made = absurd (omega (arith, one))
+copied_one From MayLink said folder versions row (Some file) f (pick ∷ more) d a b some one made =
     (take_all (length (pick ∷ more) - 1) more (omega arith), made)
 
 -- the image of the record was made, of the first pick
-pub copies_one : {P : Type 0} (From MayLink : P → List ℕ → Type 0) (folder : List ℕ) (versions : List Parts)
+pub copies_one : {P : Type 0} (From MayLink : P → List ℕ → Type 0) (said : P → Option Parts) (folder : List ℕ)
+    (versions : List Parts)
     (row : PlanRecord) (picks : List P) (d : P) (a b : Option Held) → 1 ≤ length picks
-    → MakesRow (From (get_or picks 0 d)) (MayLink (get_or picks 0 d)) folder versions row a b
-    → Copies From MayLink folder versions row picks (take (length picks - 1) (drop 1 picks)) a b
-copies_one From MayLink folder versions row picks d a b one made =
-    copied_one From MayLink folder versions row row.file made.file picks d a b made.named one made
+    → MakesRow (From (get_or picks 0 d)) (MayLink (get_or picks 0 d)) (said (get_or picks 0 d)) folder versions row a b
+    → Copies From MayLink said folder versions row picks (take (length picks - 1) (drop 1 picks)) a b
+copies_one From MayLink said folder versions row picks d a b one made =
+    copied_one From MayLink said folder versions row row.file made.file picks d a b made.named one made

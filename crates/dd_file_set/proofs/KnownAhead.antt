@@ -153,13 +153,13 @@ keeps_new path file a b after is free made =
           ∙ file_there path other file a.bytes_at (apart_of a path other bytes free stood) ∙ stood;
     })
 
-image_keeps : (From MayLink : List ℕ → Type 0) (folder : List ℕ) (file : Ranks) (planned : Parts)
-    (a b : Option Held) → MakesImage From MayLink folder file planned a b → Keeps a b
-image_keeps From MayLink folder file planned None b (inl copied) = copied.made
-image_keeps From MayLink folder file planned None b (inr link) = link.made
-image_keeps From MayLink folder file planned (Some a) b (inl copied) =
+image_keeps : (From MayLink : List ℕ → Type 0) (said : Option Parts) (folder : List ℕ) (file : Ranks) (planned : Parts)
+    (a b : Option Held) → MakesImage From MayLink said folder file planned a b → Keeps a b
+image_keeps From MayLink said folder file planned None b (inl copied) = copied.made
+image_keeps From MayLink said folder file planned None b (inr link) = link.made
+image_keeps From MayLink said folder file planned (Some a) b (inl copied) =
     keeps_new copied.path (Some copied.bytes) a b (published copied.path copied.bytes a) refl copied.free copied.made
-image_keeps From MayLink folder file planned (Some a) b (inr link) =
+image_keeps From MayLink said folder file planned (Some a) b (inr link) =
     keeps_new link.path (a.bytes_at link.from) a b (linked link.from link.path a) refl link.free link.made
 
 one_kept : (From : List ℕ → Type 0) (bytes : List ℕ) (a b : Option Held) → Keeps a b → HasAtOne From bytes a
@@ -198,14 +198,16 @@ passed_by {P = P} From (first ∷ picks) all after old new some past kept knows 
 
 -- the others, once its image is made
 pub passed_known : {P : Type 0} (From : P → List ℕ → Type 0) (picks : List P) (all after : NextFiles)
-    (old new : Option Held) (Of MayLink : List ℕ → Type 0) (folder : List ℕ) (file : Ranks) (planned : Parts)
+    (old new : Option Held) (Of MayLink : List ℕ → Type 0) (said : Option Parts) (folder : List ℕ) (file : Ranks)
+    (planned : Parts)
     → 1 ≤ length picks
     → after ≡ record {
       files = all.files;
       past = min (all.past + 1) (length all.files);
       digested = all.digested;
     }
-    → MakesImage Of MayLink folder file planned old new → KnowsNext From picks all old
+    → MakesImage Of MayLink said folder file planned old new → KnowsNext From picks all old
     → KnowsNext From (take (length picks - 1) (drop 1 picks)) after new
-passed_known From picks all after old new Of MayLink folder file planned some past made knows =
-    passed_by From picks all after old new some past (image_keeps Of MayLink folder file planned old new made) knows
+passed_known From picks all after old new Of MayLink said folder file planned some past made knows =
+    passed_by From picks all after old new some past (image_keeps Of MayLink said folder file planned old new made)
+    knows

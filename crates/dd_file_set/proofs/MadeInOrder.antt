@@ -13,6 +13,7 @@ use Rattle.dd_files.specs.Files.{Held, grown, published, started, stored, with_f
 use Rattle.dd_files.specs.Keeping.{Adds, IfSaid, IsFree}
 use Rattle.dd_files.specs.Paths.{IsPathIn}
 use Rattle.dd_files.specs.PowerCuts.{IsFrontOf, MakesLast}
+use Rattle.dd_version.specs.declared.parts.Parts.{Parts}
 use Rattle.dd_layout.specs.Layouts.{Layout}
 use Rattle.dd_layout.specs.Plans.{records_of}
 use Rattle.dd_file_set.proofs.AllStanding.{images_add, rows_unsaid}
@@ -145,21 +146,22 @@ directory_then folder path plan old mid new place whole then part =
         subst (λ (p : List ℕ). MakesLast p old new) (one_path folder (codes "DICOMDIR") path other place of)
         (last_after (IsImagePath folder) path old mid new (λ image. not_directory folder path image place) whole then)
 
-module _ {P : Type 0} (From MayLink : P → List ℕ → Type 0) (folder : List ℕ) (plan : Layout) (picks : List P)
+module _ {P : Type 0} (From MayLink : P → List ℕ → Type 0) (said : P → Option Parts) (folder : List ℕ) (plan : Layout)
+    (picks : List P)
     (path : List ℕ) (place : IsPathIn folder (codes "DICOMDIR") path) where
   abbrev text : List ℕ
   text = directory_of plan.label plan.versions plan.withdrawn
 
   pub images_then : (a b c d : Option Held)
-      → MakesImages From MayLink folder plan.versions (records_of plan.label plan.versions) picks a b
+      → MakesImages From MayLink said folder plan.versions (records_of plan.label plan.versions) picks a b
       → c ≡ option_map stored b → IfSaid (Adds (λ other. path ≡ other)) c d → IfSaid (IsPartWritten path text) c d
       → IfSaid (MakesDirectoryLast folder) a d
   images_then None b c d made kept adds part =
       let none : c ≡ None = kept ∙ ap (λ (x : Option Held). option_map stored x)
-      (rows_unsaid From MayLink folder plan.versions (picked_rows plan picks) b made) in
+      (rows_unsaid From MayLink said folder plan.versions (picked_rows plan picks) b made) in
       subst (λ (x : Option Held). IfSaid (Adds (λ other. path ≡ other)) x d) none adds
   images_then (Some old) b c d made kept adds part =
-      let images = images_add From MayLink folder plan picks old b made in
+      let images = images_add From MayLink said folder plan picks old b made in
       let is : c ≡ Some (stored images.after) = kept ∙ ap (λ (x : Option Held). option_map stored x) images.is in
       go images.after d images.whole (subst (λ (x : Option Held). IfSaid (Adds (λ other. path ≡ other)) x d) is adds)
       (subst (λ (x : Option Held). IfSaid (IsPartWritten path text) x d) is part)
@@ -172,7 +174,7 @@ module _ {P : Type 0} (From MayLink : P → List ℕ → Type 0) (folder : List 
 
   -- which is stored, or not
   pub images_then_stored : (a b c d e : Option Held)
-      → MakesImages From MayLink folder plan.versions (records_of plan.label plan.versions) picks a b
+      → MakesImages From MayLink said folder plan.versions (records_of plan.label plan.versions) picks a b
       → c ≡ option_map stored b → IfSaid (Adds (λ other. path ≡ other)) c d → IfSaid (IsPartWritten path text) c d
       → e ≡ option_map stored d → IfSaid (MakesDirectoryLast folder) a e
   images_then_stored a b c d e made kept adds part last =

@@ -26,9 +26,11 @@ pub record SaysToo (From To MayLink MayLinkTo : List ℕ → Type 0) : Type 0 wh
   pub stands : (path : List ℕ) → From path → To path
   pub links : (bytes : List ℕ) → MayLink bytes → MayLinkTo bytes
 
-module _ (From To MayLink MayLinkTo : List ℕ → Type 0) (same : SaysToo From To MayLink MayLinkTo) where
+module _ (From To MayLink MayLinkTo : List ℕ → Type 0) (said : Option Parts)
+    (same : SaysToo From To MayLink MayLinkTo) where
   image_by : (folder : List ℕ) (file : Ranks) (planned : Parts) (old new : Option Held)
-      → MakesImage From MayLink folder file planned old new → MakesImage To MayLinkTo folder file planned old new
+      → MakesImage From MayLink said folder file planned old new
+      → MakesImage To MayLinkTo said folder file planned old new
   image_by folder file planned old new (inl copied) = inl (record {
     path = copied.path;
     bytes = copied.bytes;
@@ -55,7 +57,7 @@ module _ (From To MayLink MayLinkTo : List ℕ → Type 0) (same : SaysToo From 
   })
 
   row_by : (folder : List ℕ) (versions : List Parts) (row : PlanRecord) (old new : Option Held)
-      → MakesRow From MayLink folder versions row old new → MakesRow To MayLinkTo folder versions row old new
+      → MakesRow From MayLink said folder versions row old new → MakesRow To MayLinkTo said folder versions row old new
   row_by folder versions row old new made = record {
     file = made.file;
     named = made.named;
@@ -66,24 +68,27 @@ module _ (From To MayLink MayLinkTo : List ℕ → Type 0) (same : SaysToo From 
 
 -- ---- all of them
 
-module _ {P : Type 0} (From To MayLink MayLinkTo : P → List ℕ → Type 0) (folder : List ℕ) where
+module _ {P : Type 0} (From To MayLink MayLinkTo : P → List ℕ → Type 0) (said : P → Option Parts)
+    (folder : List ℕ) where
   abbrev Same : P → Type 0
   Same pick = SaysToo (From pick) (To pick) (MayLink pick) (MayLinkTo pick)
 
   rows_by : (versions : List Parts) (rows : List PlanRecord) (picks : List P) (old new : Option Held) → All Same picks
-      → MakesRows From MayLink folder versions (zip rows picks) old new
-      → MakesRows To MayLinkTo folder versions (zip rows picks) old new
+      → MakesRows From MayLink said folder versions (zip rows picks) old new
+      → MakesRows To MayLinkTo said folder versions (zip rows picks) old new
   rows_by versions [] picks old new same made = made
   rows_by versions (row ∷ rows) [] old new same made = made
   rows_by versions (row ∷ rows) (pick ∷ picks) old new same made = (
     made.0,
-    row_by (From pick) (To pick) (MayLink pick) (MayLinkTo pick) (All-head Same pick picks same) folder versions row
+    row_by (From pick) (To pick) (MayLink pick) (MayLinkTo pick) (said pick)
+        (All-head Same pick picks same) folder versions row
         old made.0 made.1,
     rows_by versions rows picks made.0 new (All-tail Same pick picks same) made.2,
   )
 
   pub set_by : (plan : Layout) (picks : List P) (old new : Option Held) → All Same picks
-      → MakesFileSet From MayLink folder plan picks old new → MakesFileSet To MayLinkTo folder plan picks old new
+      → MakesFileSet From MayLink said folder plan picks old new
+      → MakesFileSet To MayLinkTo said folder plan picks old new
   set_by plan picks old new same made = record {
     copied = made.copied;
     images = rows_by plan.versions _ picks old made.copied same made.images;
@@ -97,15 +102,17 @@ module _ {P : Type 0} (From To MayLink MayLinkTo : P → List ℕ → Type 0) (f
 
   -- the same where each pick is one of these
   pub set_each : (plan : Layout) (picks : List P) (old new : Option Held) → ((pick : P) → Same pick)
-      → MakesFileSet From MayLink folder plan picks old new → MakesFileSet To MayLinkTo folder plan picks old new
+      → MakesFileSet From MayLink said folder plan picks old new
+      → MakesFileSet To MayLinkTo said folder plan picks old new
   set_each plan picks old new same made = set_by plan picks old new (λ at d within. same (get_or picks at d)) made
 
 -- where no hard links are asked for, images get none
-pub unlinked_done : {P E : Type 0} (r : Result ℕ E) (StandsAt : P → List ℕ → Type 0) (folder : List ℕ) (plan : Layout)
+pub unlinked_done : {P E : Type 0} (r : Result ℕ E) (StandsAt : P → List ℕ → Type 0)
+    (said : P → Option Parts) (folder : List ℕ) (plan : Layout)
     (picks : List P) (old new : Option Held)
-    → IfOk r (λ status. status ≡ 0 → MakesFileSet StandsAt (λ _ _. false ≡ true) folder plan picks old new)
-    → IfOk r (λ status. status ≡ 0 → MakesFileSet StandsAt (λ _ _. ⊥) folder plan picks old new)
-unlinked_done (Ok status) StandsAt folder plan picks old new made = λ done.
-    set_each StandsAt StandsAt (λ _ _. false ≡ true) (λ _ _. ⊥) folder plan picks old new
+    → IfOk r (λ status. status ≡ 0 → MakesFileSet StandsAt (λ _ _. false ≡ true) said folder plan picks old new)
+    → IfOk r (λ status. status ≡ 0 → MakesFileSet StandsAt (λ _ _. ⊥) said folder plan picks old new)
+unlinked_done (Ok status) StandsAt said folder plan picks old new made = λ done.
+    set_each StandsAt StandsAt (λ _ _. false ≡ true) (λ _ _. ⊥) said folder plan picks old new
     (λ pick. record { stands = λ path at. at; links = λ bytes may. absurd (cc) }) (made done)
-unlinked_done (Err refusal) StandsAt folder plan picks old new made = tt
+unlinked_done (Err refusal) StandsAt said folder plan picks old new made = tt

@@ -59,9 +59,9 @@ pub record HasAtOne (From : List ℕ → Type 0) (bytes : List ℕ) (files : Opt
   pub picked : From from
   pub there : HasBytes from bytes files
 
--- A file at one of these paths was copied there, where none stood. It is a file of the planned version, and all other
--- files are as they were.
-pub record CopiesImage (From : List ℕ → Type 0) (folder : List ℕ) (file : Ranks) (planned : Parts)
+-- A file at one of these paths was copied there, where none stood. It is a file of the planned version, wholly of the one
+-- that is said, and all other files are as they were.
+pub record CopiesImage (From : List ℕ → Type 0) (said : Option Parts) (folder : List ℕ) (file : Ranks) (planned : Parts)
     (old new : Option Held) : Type 0 where
   pub path : List ℕ
   pub bytes : List ℕ
@@ -69,12 +69,12 @@ pub record CopiesImage (From : List ℕ → Type 0) (folder : List ℕ) (file : 
   pub place : IsPlace folder file path
   pub free : IsFree path old
   pub of : HasAtOne From bytes old
-  pub is : IsFileAs planned AsPlanned bytes
+  pub is : IsFileAs planned said AsPlanned bytes
   pub made : new ≡ option_map (published path bytes) old
 
 -- where a file was stored before, these bytes are as many as it had then
 abbrev pub IsAsStored : Lookup → List ℕ → Type 0
-IsAsStored (Stored size) bytes = length bytes ≡ size
+IsAsStored (Stored folder size) bytes = length bytes ≡ size
 IsAsStored lookup bytes = Unit {0}
 
 -- A file at one of these paths, whose bytes a hard link may have, has one there, where no file stood. All other files
@@ -91,47 +91,53 @@ pub record LinksImage (From MayLink : List ℕ → Type 0) (folder : List ℕ) (
   pub made : new ≡ option_map (linked from path) old
 
 -- the image was made of the file at one of these paths: as a copy, or as a hard link where it may have its bytes
-abbrev pub MakesImage : (List ℕ → Type 0) → (List ℕ → Type 0) → List ℕ → Ranks → Parts → Option Held → Option Held
+abbrev pub MakesImage : (List ℕ → Type 0) → (List ℕ → Type 0) → Option Parts → List ℕ → Ranks → Parts → Option Held
+    → Option Held
     → Type 0
-MakesImage From MayLink folder file planned old new =
-    CopiesImage From folder file planned old new ⊎ LinksImage From MayLink folder file old new
+MakesImage From MayLink said folder file planned old new =
+    CopiesImage From said folder file planned old new ⊎ LinksImage From MayLink folder file old new
 
 -- the image of this record was made
-pub record MakesRow (From MayLink : List ℕ → Type 0) (folder : List ℕ) (versions : List Parts) (row : PlanRecord)
+pub record MakesRow (From MayLink : List ℕ → Type 0) (said : Option Parts) (folder : List ℕ) (versions : List Parts)
+    (row : PlanRecord)
     (old new : Option Held) : Type 0 where
   pub file : Ranks
   pub named : row.file ≡ Some file
   pub planned : Parts
   pub of : slice_get versions row.of ≡ Some planned
-  pub made : MakesImage From MayLink folder file planned old new
+  pub made : MakesImage From MayLink said folder file planned old new
 
--- The images of these records were made one after the other, each with its pick. That says where its file may stand, and
--- which bytes a hard link to it may have.
-abbrev pub MakesRows : {P : Type 0} → (P → List ℕ → Type 0) → (P → List ℕ → Type 0) → List ℕ → List Parts
+-- The images of these records were made one after the other, each with its pick. That says where its file may stand,
+-- which bytes a hard link to it may have, and of which version a copy of it is wholly.
+abbrev pub MakesRows : {P : Type 0} → (P → List ℕ → Type 0) → (P → List ℕ → Type 0) → (P → Option Parts) → List ℕ
+    → List Parts
     → List (PlanRecord × P) → Option Held → Option Held → Type 0
-MakesRows From MayLink folder versions [] old new = new ≡ old
-MakesRows From MayLink folder versions (row ∷ rows) old new = (mid : Option Held)
-    × MakesRow (From row.1) (MayLink row.1) folder versions row.0 old mid
-    × MakesRows From MayLink folder versions rows mid new
+MakesRows From MayLink said folder versions [] old new = new ≡ old
+MakesRows From MayLink said folder versions (row ∷ rows) old new = (mid : Option Held)
+    × MakesRow (From row.1) (MayLink row.1) (said row.1) folder versions row.0 old mid
+    × MakesRows From MayLink said folder versions rows mid new
 
 -- the images of the records that have a file were made, as long as there were picks, and nothing else
-abbrev pub MakesImages : {P : Type 0} → (P → List ℕ → Type 0) → (P → List ℕ → Type 0) → List ℕ → List Parts
+abbrev pub MakesImages : {P : Type 0} → (P → List ℕ → Type 0) → (P → List ℕ → Type 0) → (P → Option Parts) → List ℕ
+    → List Parts
     → List PlanRecord → List P → Option Held → Option Held → Type 0
-MakesImages From MayLink folder versions records picks old new =
-    MakesRows From MayLink folder versions (zip (filter (λ row. is_some row.file) records) picks) old new
+MakesImages From MayLink said folder versions records picks old new =
+    MakesRows From MayLink said folder versions (zip (filter (λ row. is_some row.file) records) picks) old new
 
 -- the image of a record with this file was made, which uses up the first pick; without a file or a pick, nothing was
-abbrev pub CopiesTo : {P : Type 0} → (P → List ℕ → Type 0) → (P → List ℕ → Type 0) → List ℕ → List Parts → PlanRecord
+abbrev pub CopiesTo : {P : Type 0} → (P → List ℕ → Type 0) → (P → List ℕ → Type 0) → (P → Option Parts) → List ℕ
+    → List Parts → PlanRecord
     → Option Ranks → List P → List P → Option Held → Option Held → Type 0
-CopiesTo From MayLink folder versions row None picks later old new = (later ≡ picks) × (new ≡ old)
-CopiesTo From MayLink folder versions row (Some file) [] later old new = (later ≡ []) × (new ≡ old)
-CopiesTo From MayLink folder versions row (Some file) (pick ∷ more) later old new =
-    (later ≡ more) × MakesRow (From pick) (MayLink pick) folder versions row old new
+CopiesTo From MayLink said folder versions row None picks later old new = (later ≡ picks) × (new ≡ old)
+CopiesTo From MayLink said folder versions row (Some file) [] later old new = (later ≡ []) × (new ≡ old)
+CopiesTo From MayLink said folder versions row (Some file) (pick ∷ more) later old new =
+    (later ≡ more) × MakesRow (From pick) (MayLink pick) (said pick) folder versions row old new
 
-abbrev pub Copies : {P : Type 0} → (P → List ℕ → Type 0) → (P → List ℕ → Type 0) → List ℕ → List Parts → PlanRecord
+abbrev pub Copies : {P : Type 0} → (P → List ℕ → Type 0) → (P → List ℕ → Type 0) → (P → Option Parts) → List ℕ
+    → List Parts → PlanRecord
     → List P → List P → Option Held → Option Held → Type 0
-Copies From MayLink folder versions row picks later old new =
-    CopiesTo From MayLink folder versions row row.file picks later old new
+Copies From MayLink said folder versions row picks later old new =
+    CopiesTo From MayLink said folder versions row row.file picks later old new
 
 -- Where the plan has the versions of a catalogue in harmony, following the offsets of its directory visits each of them
 -- exactly once, and nothing else.
@@ -147,10 +153,11 @@ SaysPlan plan = (m : List Parts) → IsCatalogue m → plan.versions ≡ harmoni
 
 -- The images of the records of the plan were made in the folder, one for each pick, and then its directory (PS3.10
 -- section 8.6). All was stored before the directory was made, and once it had ended.
-pub record MakesFileSet {P : Type 0} (From MayLink : P → List ℕ → Type 0) (folder : List ℕ) (plan : Layout)
+pub record MakesFileSet {P : Type 0} (From MayLink : P → List ℕ → Type 0) (said : P → Option Parts) (folder : List ℕ)
+    (plan : Layout)
     (picks : List P) (old new : Option Held) : Type 0 where
   pub copied : Option Held
-  pub images : MakesImages From MayLink folder plan.versions (records_of plan.label plan.versions) picks old copied
+  pub images : MakesImages From MayLink said folder plan.versions (records_of plan.label plan.versions) picks old copied
   pub path : List ℕ
   pub place : IsPathIn folder (codes "DICOMDIR") path
   pub free : IsFree path copied

@@ -35,7 +35,7 @@ struct Left<'a, O: Origins> {
 }
 
 /// Makes each image at its File ID in the folder, in the order of the plan: a copy of its file, or a hard link to it.
-/// Each copy must be a file of the version that is planned there.
+/// Each copy must be a file of the version that is planned there, and wholly of the one that is said of its file.
 #[tactic(auto, using(dd_files::proofs::KeptFiles::said_is))]
 pub(crate) fn copy_images<F: Files + Progress, O: Origins>(
     alloc: Global,
@@ -47,7 +47,7 @@ pub(crate) fn copy_images<F: Files + Progress, O: Origins>(
     // Where the files say what they hold, an image was made of the file of each pick, as a file of its planned version
     // or as a hard link. All other files are as they were.
     ensures made { IsOk result → MakesImages
-        (O.stands_at set.now.origins.now) (O.may_link set.now.origins.now)
+        (O.stands_at set.now.origins.now) (O.may_link set.now.origins.now) (O.said set.now.origins.now)
         set.now.folder.now set.now.plan.now.versions
         (records_of set.now.plan.now.label set.now.plan.now.versions) set.now.picks.now
         (F.held files.old) (F.held files.new) }
@@ -56,7 +56,8 @@ pub(crate) fn copy_images<F: Files + Progress, O: Origins>(
     ensures due { IfErr result (λ refusal.
         IsDueTo F.In.Read (F.refusals files.new) (F.Write.failures files.new) refusal.fault) }
     ensures changed { IfErr result (λ refusal. IfChanged (HasUnfitPick
-        (O.stands_at set.now.origins.now) (O.may_link set.now.origins.now) (O.gives_links set.now.origins.now)
+        (O.stands_at set.now.origins.now) (O.may_link set.now.origins.now) (O.said set.now.origins.now)
+        (O.gives_links set.now.origins.now)
         set.now.plan.now.versions (picked_rows set.now.plan.now set.now.picks.now)
         (F.held files.new)) refusal.fault) }
 {
@@ -88,7 +89,7 @@ fn copy_record<F: Files + Progress, O: Origins>(
     ensures refusal { IfErr result (IsOfWork (O.paths set.now.origins.now)) }
     ensures has { IsOk result → All (λ pick. O.number pick < O.count set.now.origins.now) left.new.picks.now }
     ensures copied { IsOk result → Copies
-        (O.stands_at set.now.origins.now) (O.may_link set.now.origins.now)
+        (O.stands_at set.now.origins.now) (O.may_link set.now.origins.now) (O.said set.now.origins.now)
         set.now.folder.now set.now.plan.now.versions row.now left.old.picks.now left.new.picks.now
         (F.held files.old) (F.held files.new) }
     ensures known { IsOk result → KnowsNext (O.stands_at set.now.origins.now) left.new.picks.now
@@ -100,7 +101,8 @@ fn copy_record<F: Files + Progress, O: Origins>(
     ensures ahead { IsOk result → AreDue (HasCounted (F.refusals files.new))
         (HasFailedReader F.In.Read) left.new.ahead }
     ensures changed { IfErr result (λ refusal. IfChanged (HasUnfitFirst
-        (O.stands_at set.now.origins.now) (O.may_link set.now.origins.now) (O.gives_links set.now.origins.now)
+        (O.stands_at set.now.origins.now) (O.may_link set.now.origins.now) (O.said set.now.origins.now)
+        (O.gives_links set.now.origins.now)
         set.now.plan.now.versions row.now left.old.picks.now (F.held files.old)) refusal.fault) }
 {
     match (row.file, left.picks) {
@@ -137,7 +139,7 @@ fn make_image<F: Files + Progress, O: Origins>(
     ensures refusal { IfErr result (IsOfWork (O.paths image.now.origins.now)) }
     ensures made { IsOk result → MakesImage
         (O.stands_at image.now.origins.now image.now.pick)
-        (O.may_link image.now.origins.now image.now.pick)
+        (O.may_link image.now.origins.now image.now.pick) (O.said image.now.origins.now image.now.pick)
         image.now.folder.now image.now.file image.now.planned.now
         (F.held files.old) (F.held files.new) }
     ensures adds { IfSaid (Adds (IsImagePath image.now.folder.now))
@@ -148,6 +150,7 @@ fn make_image<F: Files + Progress, O: Origins>(
         → HasCounted (F.refusals files.new) }
     ensures changed { IfErr result (λ refusal. IfChanged (HasUnfit
         (O.stands_at image.now.origins.now image.now.pick) (O.may_link image.now.origins.now image.now.pick)
+        (O.said image.now.origins.now image.now.pick)
         (O.gives_links image.now.origins.now) image.now.planned.now (F.held files.old)) refusal.fault) }
 {
     if link_image(alloc, image, files)? {
@@ -168,7 +171,7 @@ fn copy_image<F: Files + Progress, O: Origins>(
     requires due { IsDue (HasCounted (F.refusals files.old)) (HasFailedReader F.In.Read) ahead }
     ensures refusal { IfErr result (IsOfWork (O.paths image.now.origins.now)) }
     ensures made { IsOk result
-        → CopiesImage (O.stands_at image.now.origins.now image.now.pick)
+        → CopiesImage (O.stands_at image.now.origins.now image.now.pick) (O.said image.now.origins.now image.now.pick)
         image.now.folder.now image.now.file image.now.planned.now
         (F.held files.old) (F.held files.new) }
     ensures adds { IfSaid (Adds (IsImagePath image.now.folder.now))
@@ -179,6 +182,7 @@ fn copy_image<F: Files + Progress, O: Origins>(
         → HasCounted (F.refusals files.new) }
     ensures changed { IfErr result (λ refusal. IfChanged (HasUnfit
         (O.stands_at image.now.origins.now image.now.pick) (O.may_link image.now.origins.now image.now.pick)
+        (O.said image.now.origins.now image.now.pick)
         (O.gives_links image.now.origins.now) image.now.planned.now (F.held files.old)) refusal.fault) }
 {
     match ahead {
@@ -204,7 +208,7 @@ fn copy_ahead<F: Files + Progress, O: Origins>(
         (known.File ahead.now) }
     ensures refusal { IfErr result (IsOfWork (O.paths image.now.origins.now)) }
     ensures made { IsOk result
-        → CopiesImage (O.stands_at image.now.origins.now image.now.pick)
+        → CopiesImage (O.stands_at image.now.origins.now image.now.pick) (O.said image.now.origins.now image.now.pick)
         image.now.folder.now image.now.file image.now.planned.now
         (F.held files.old) (F.held files.new) }
     ensures adds { IfSaid (Adds (IsImagePath image.now.folder.now))
@@ -215,11 +219,12 @@ fn copy_ahead<F: Files + Progress, O: Origins>(
         → HasCounted (F.refusals files.new) }
     ensures changed { IfErr result (λ refusal. IfChanged (HasUnfit
         (O.stands_at image.now.origins.now image.now.pick) (O.may_link image.now.origins.now image.now.pick)
+        (O.said image.now.origins.now image.now.pick)
         (O.gives_links image.now.origins.now) image.now.planned.now (F.held files.old)) refusal.fault) }
 {
     start_copy(alloc, image.folder, image.file, files)?;
     one_filed();
-    match ahead.copy_to(files, image.planned) {
+    match ahead.copy_to(files, &image.wanted()) {
         Ok(filed) => end_copy(alloc, image, filed, files),
         Err(fault) => Err(refusal_of(fault, image.file, image.origins.subject(image.pick))),
     }
@@ -234,7 +239,7 @@ fn copy_streamed<F: Files + Progress, O: Origins>(
     requires { O.number image.now.pick < O.count image.now.origins.now }
     ensures refusal { IfErr result (IsOfWork (O.paths image.now.origins.now)) }
     ensures made { IsOk result
-        → CopiesImage (O.stands_at image.now.origins.now image.now.pick)
+        → CopiesImage (O.stands_at image.now.origins.now image.now.pick) (O.said image.now.origins.now image.now.pick)
         image.now.folder.now image.now.file image.now.planned.now
         (F.held files.old) (F.held files.new) }
     ensures adds { IfSaid (Adds (IsImagePath image.now.folder.now))
@@ -245,12 +250,13 @@ fn copy_streamed<F: Files + Progress, O: Origins>(
         → HasCounted (F.refusals files.new) }
     ensures changed { IfErr result (λ refusal. IfChanged (HasUnfit
         (O.stands_at image.now.origins.now image.now.pick) (O.may_link image.now.origins.now image.now.pick)
+        (O.said image.now.origins.now image.now.pick)
         (O.gives_links image.now.origins.now) image.now.planned.now (F.held files.old)) refusal.fault) }
 {
     let mut reader = open(alloc, image.origins, image.pick, files)?;
     start_copy(alloc, image.folder, image.file, files)?;
     one_filed();
-    match file_image(alloc, &mut reader, files, image.planned, SOURCE_LIMIT) {
+    match file_image(alloc, &mut reader, files, &image.wanted(), SOURCE_LIMIT) {
         Ok(filed) => end_copy(alloc, image, filed, files),
         Err(fault) => Err(refusal_of(fault, image.file, image.origins.subject(image.pick))),
     }

@@ -61,7 +61,7 @@ pub fn write_file_set<F: Files + Progress, O: Origins>(
     // Where the files say what they hold, an image was made for each pick, and then the directory.
     ensures made { IsOk result
         → MakesFileSet
-        (O.stands_at set.now.origins.now) (O.may_link set.now.origins.now)
+        (O.stands_at set.now.origins.now) (O.may_link set.now.origins.now) (O.said set.now.origins.now)
         set.now.folder.now set.now.plan.now set.now.picks.now
         (F.held files.old) (F.held files.new) }
 
@@ -73,7 +73,8 @@ pub fn write_file_set<F: Files + Progress, O: Origins>(
 
     // Where a file is said to have changed, the file of a pick has bytes of which its image can't be made.
     ensures changed { IfErr result (λ refusal. IfChanged (HasUnfitPick
-        (O.stands_at set.now.origins.now) (O.may_link set.now.origins.now) (O.gives_links set.now.origins.now)
+        (O.stands_at set.now.origins.now) (O.may_link set.now.origins.now) (O.said set.now.origins.now)
+        (O.gives_links set.now.origins.now)
         set.now.plan.now.versions (picked_rows set.now.plan.now set.now.picks.now)
         (F.held files.new)) refusal.fault) }
 {

@@ -1,5 +1,5 @@
 //! An image of a file-set: its file, its folder, and how it is stored.
-ghost use Rattle.std.specs.Prelude.{◌≡◌, ◌≢◌, ◌<◌, ℕ, List, IfErr, IfOk, IsErr, IsOk};
+ghost use Rattle.std.specs.Prelude.{◌≡◌, ◌≢◌, ◌<◌, ℕ, List, IfErr, IfOk, IsErr, IsOk, option_map};
 ghost use Rattle.dd_elem.specs.Device.{counted};
 ghost use Rattle.dd_files.specs.Files.{IsUnread};
 ghost use Rattle.dd_files.specs.Reasons.{HasCounted};
@@ -14,6 +14,7 @@ use crate::origins::{Lookup, Origins};
 use crate::refusal::{ProgramFault, Refusal, Subject};
 use dd_elem::FileId;
 use dd_files::{Files, NotThere, file_path};
+use dd_filing::Wanted;
 use dd_version::Version;
 use std::alloc::Global;
 
@@ -28,6 +29,19 @@ pub(crate) struct Image<'a, O: Origins> {
     pub(crate) origins: &'a O,
     /// The file that this one is made of.
     pub(crate) pick: O::Pick,
+}
+
+impl<O: Origins> Image<'_, O> {
+    /// Gives what the copy of the image is compared with.
+    pub(crate) fn wanted(&self) -> Wanted<'_>
+        ensures planned { result.planned.now ≡ self.now.planned.now }
+        ensures said { option_map (λ said. said.now) result.said ≡ O.said self.now.origins.now self.now.pick }
+    {
+        Wanted {
+            planned: self.planned,
+            said: self.origins.said(self.pick),
+        }
+    }
 }
 
 pub(crate) fn open<F: Files, O: Origins>(
@@ -62,7 +76,7 @@ fn open_at<F: Files>(lookup: Lookup<'_>, path: &str, files: &mut F) -> Result<F:
     match lookup {
         Lookup::Source => files.source(path),
         Lookup::Member(set) => files.member(set, path),
-        Lookup::Stored(_) => files.exact_file(path),
+        Lookup::Stored(folder, _) => files.exact_file(folder, path),
     }
 }
 

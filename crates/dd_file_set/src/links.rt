@@ -40,6 +40,7 @@ pub(crate) fn link_image<F: Files + Progress, O: Origins>(
         → HasCounted (F.refusals files.new) }
     ensures changed { IfErr result (λ refusal. IfChanged (HasUnfit
         (O.stands_at image.now.origins.now image.now.pick) (O.may_link image.now.origins.now image.now.pick)
+        (O.said image.now.origins.now image.now.pick)
         (O.gives_links image.now.origins.now) image.now.planned.now (F.held files.old)) refusal.fault) }
 {
     let Image {
@@ -84,7 +85,7 @@ fn open_unstored<F: Files, O: Origins>(
     ensures unchanged { IfErr result (λ refusal. IfChanged ⊥ refusal.fault) }
 {
     match lookup {
-        Lookup::Stored(_) => {}
+        Lookup::Stored(..) => {}
         Lookup::Source | Lookup::Member(_) => {
             open(alloc, image.origins, image.pick, files)?;
         }
@@ -112,7 +113,7 @@ fn give_link<F: Files>(
         (λ held. IsSomeAnd (held.bytes_at from.now) (λ bytes. ¬ IsAsStored lookup.entry bytes)) }
 {
     match lookup {
-        Lookup::Stored(size) => files.link_stored(from, path, size),
+        Lookup::Stored(folder, size) => files.link_stored(folder, from, path, size),
         Lookup::Member(set) => files.link(set, from, path),
         Lookup::Source => Err(LinkFault::Refused),
     }
@@ -129,7 +130,7 @@ fn store_link<F: Files>(lookup: Lookup<'_>, files: &mut F) -> Result<(), Refusal
     ensures unchanged { IfErr result (λ refusal. IfChanged ⊥ refusal.fault) }
 {
     match lookup {
-        Lookup::Stored(_) => Ok(()),
+        Lookup::Stored(..) => Ok(()),
         Lookup::Source | Lookup::Member(_) => store_batch(files),
     }
 }

@@ -1,5 +1,5 @@
 //! The files that images are made of.
-ghost use Rattle.std.specs.Prelude.{◌≡◌, ◌<◌, ℕ, List, IfOk, string_bytes, true};
+ghost use Rattle.std.specs.Prelude.{◌≡◌, ◌<◌, ℕ, List, IfOk, Option, option_map, string_bytes, true};
 ghost use Rattle.dd_file_set.specs.Made.{IsAsStored};
 ghost use Rattle.dd_file_set.specs.Refusal.{IsAmong};
 
@@ -15,8 +15,8 @@ pub enum Lookup<'a> {
     Source,
     /// It is looked up as a file of the file-set in this folder.
     Member(&'a str),
-    /// It is looked up at exactly its path. It was stored before, with this number of bytes.
-    Stored(u64),
+    /// It is looked up at exactly its path in this folder. It was stored before, with this number of bytes.
+    Stored(&'a str, u64),
 }
 
 /// The files that images are made of. A pick is one of them where its number is below their count.
@@ -45,6 +45,9 @@ pub trait Origins {
     // Its image may be a hard link to it, where it has these bytes.
     ghost may_link: { Self → Self.Pick → List ℕ → Type 0 };
 
+    // Its copy must be wholly of this version, where one is said.
+    ghost said: { Self → Self.Pick → Option Parts };
+
     // A refusal names this where the file can't be opened or read, or has changed.
     ghost is_subject: { Self → Self.Pick → Subject → Type 0 };
 
@@ -65,6 +68,10 @@ pub trait Origins {
     /// Says whether images may get hard links in place of copies.
     fn gives_links(&self) -> bool
         ensures { result ≡ true → gives_links self.now };
+
+    /// Gives the version that a copy of the file must have with all its keys, where one is said.
+    fn said(&self, pick: Self::Pick) -> Option<&Version>
+        ensures { option_map (λ version. version.now) result ≡ said self.now pick };
 
     /// Finds what a refusal names where the file is not what the plan says. It is the file of the first record that
     /// says what the plan says, or the picked file where no record does or a set can't be read again.

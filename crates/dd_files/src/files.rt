@@ -69,8 +69,9 @@ pub trait Files: Write {
         ensures opened { IfOk result (IsUnread Self.In.Read (held self.old) path.now) }
         ensures kept { held self.new ≡ held self.old };
 
-    /// Opens the file at exactly this path, in no other spelling. A symbolic link counts as not there.
-    fn exact_file(&mut self, path: &str) -> Result<Self::In, NotThere>
+    /// Opens the file at exactly this path below the folder `set`, in no other spelling. A symbolic link counts as not
+    /// there, and so does one among the folders below `set`.
+    fn exact_file(&mut self, set: &str, path: &str) -> Result<Self::In, NotThere>
         ensures call { IsCall Self.Write refusals held result self.old self.new }
         ensures opened { IfOk result (IsUnread Self.In.Read (held self.old) path.now) }
         ensures kept { held self.new ≡ held self.old };
@@ -127,9 +128,10 @@ pub trait Files: Write {
         ensures linked { IsOk result → held self.new
             ≡ option_map (linked from.now path.now) (held self.old) };
 
-    /// Gives the file at exactly the path `from` the hard link `path` as `link` does, where it has `size` bytes.
-    /// Changed where it has another number. Its bytes were stored before, so only the new name is to be stored.
-    fn link_stored(&mut self, from: &str, path: &str, size: u64) -> Result<(), LinkFault>
+    /// Gives the file at exactly the path `from` below the folder `set` the hard link `path` as `link` does, where it
+    /// has `size` bytes. Changed where it has another number. Its bytes were stored before, so only the new name is to
+    /// be stored.
+    fn link_stored(&mut self, set: &str, from: &str, path: &str, size: u64) -> Result<(), LinkFault>
         ensures call { IsCall Self.Write refusals held result self.old self.new }
         ensures there { IsOk result → IfSome (held self.old)
             (λ files. IsSome (files.bytes_at from.now)) }

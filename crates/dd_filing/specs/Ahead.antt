@@ -47,12 +47,13 @@ shown false (known.File file) = if file.whole then known.Unknown else known.File
 shown false file = file
 
 -- the answer for a file, to a writer that was `old` and is `new`
-abbrev pub IsSentAhead : {W : Type 0} → WriteOf W → W → W → Parts → Result Filed FilingFault → Taken → Type 0
-IsSentAhead writer old new planned (Ok filed) file = (file.whole ≡ true)
-    × (IsFileAs planned filed file.bytes × GoesTo writer file.bytes old new)
-IsSentAhead writer old new planned (Err Unread) file = (file.whole ≡ false) × GoesTo writer file.bytes old new
-IsSentAhead writer old new planned (Err Unsent) file = (taken : ℕ) × StopsIn writer file.bytes 0 taken old new
-IsSentAhead writer old new planned (Err fault) file = ⊥
+abbrev pub IsSentAhead : {W : Type 0} → WriteOf W → W → W → Parts → Option Parts → Result Filed FilingFault → Taken
+    → Type 0
+IsSentAhead writer old new planned said (Ok filed) file = (file.whole ≡ true)
+    × (IsFileAs planned said filed file.bytes × GoesTo writer file.bytes old new)
+IsSentAhead writer old new planned said (Err Unread) file = (file.whole ≡ false) × GoesTo writer file.bytes old new
+IsSentAhead writer old new planned said (Err Unsent) file = (taken : ℕ) × StopsIn writer file.bytes 0 taken old new
+IsSentAhead writer old new planned said (Err fault) file = ⊥
 
 -- ---- the next files
 

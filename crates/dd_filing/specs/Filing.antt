@@ -1,5 +1,5 @@
 -- What filing an image answers: what the copied file is beside the planned version, or why it was not copied.
-use Rattle.std.specs.Prelude.{◌≡◌, ◌≢◌, ℕ, ◌≤◌, ◌+◌, List, length, Option, None, Some, Result, Ok, Err}
+use Rattle.std.specs.Prelude.{◌≡◌, ◌≢◌, ℕ, ◌≤◌, ◌+◌, List, length, Option, None, Some, IfSome, Result, Ok, Err}
 use Rattle.dd_elem.specs.declared.device.Write.{Ghosts as WriteOf}
 use Rattle.dd_stream.specs.Sends.{GoesTo, StopsIn}
 use Rattle.dd_stream.specs.Streams.{Ends}
@@ -16,20 +16,27 @@ use Rattle.dd_filing.specs.declared.agreeing.Filed.TheVariants.{AsPlanned, Other
 use Rattle.dd_filing.specs.declared.copying.FilingFault.{FilingFault}
 use Rattle.dd_filing.specs.declared.copying.FilingFault.TheVariants.{Memory, Unread, Unsent, Changed}
 
--- ---- the copied file beside the planned version
+-- ---- the copied file beside the planned version and, where one is said, the version that it must be wholly
 
--- what a found version is: filed as planned, of another digest, or of the planned digest and filed otherwise
-abbrev pub IsVersionAs : Parts → Filed → Parts → Type 0
-IsVersionAs planned AsPlanned found = FiledAs planned found
-IsVersionAs planned OtherVersion found = found.digest ≢ planned.digest
-IsVersionAs planned Mislabelled found = (found.digest ≡ planned.digest) × ¬ FiledAs planned found
+-- the found version is filed as planned, and where a version is said, each key is that of this one
+pub record IsWanted (planned : Parts) (said : Option Parts) (found : Parts) : Type 0 where
+  pub filed : FiledAs planned found
+  pub whole : IfSome said (λ version. found ≡ version)
 
--- What a copied file is: a file of a version that is filed as planned, a file of a version with another digest, or
--- neither of these.
-abbrev pub IsFileAs : Parts → Filed → List ℕ → Type 0
-IsFileAs planned AsPlanned file = (found : Parts) × (IsVersion file found × IsVersionAs planned AsPlanned found)
-IsFileAs planned OtherVersion file = (found : Parts) × (IsVersion file found × IsVersionAs planned OtherVersion found)
-IsFileAs planned Mislabelled file = (found : Parts) → IsVersion file found → IsVersionAs planned Mislabelled found
+-- what a found version is: the wanted one, of another digest, or of the planned digest and not wanted
+abbrev pub IsVersionAs : Parts → Option Parts → Filed → Parts → Type 0
+IsVersionAs planned said AsPlanned found = IsWanted planned said found
+IsVersionAs planned said OtherVersion found = found.digest ≢ planned.digest
+IsVersionAs planned said Mislabelled found = (found.digest ≡ planned.digest) × ¬ IsWanted planned said found
+
+-- what a copied file is: a file of the wanted version, a file of a version with another digest, or neither of these
+abbrev pub IsFileAs : Parts → Option Parts → Filed → List ℕ → Type 0
+IsFileAs planned said AsPlanned file =
+    (found : Parts) × (IsVersion file found × IsVersionAs planned said AsPlanned found)
+IsFileAs planned said OtherVersion file =
+    (found : Parts) × (IsVersion file found × IsVersionAs planned said OtherVersion found)
+IsFileAs planned said Mislabelled file =
+    (found : Parts) → IsVersion file found → IsVersionAs planned said Mislabelled found
 
 -- the bytes are a file of this version, or, for None, a file of no version
 abbrev pub IsVersionOrNone : List ℕ → Option Parts → Type 0
@@ -62,10 +69,10 @@ IsCopyOfVersion writer old new (Ok version) limit given left failures after = Is
 IsCopyOfVersion writer old new (Err fault) limit given left failures after =
     IsRefusedCopy writer old new fault limit given left failures after
 
--- the answer of a copy that is compared with the planned version
-abbrev pub IsFiled : {W : Type 0} → WriteOf W → W → W → Parts → Result Filed FilingFault → ℕ → List ℕ
+-- the answer of a copy that is compared with the wanted version
+abbrev pub IsFiled : {W : Type 0} → WriteOf W → W → W → Parts → Option Parts → Result Filed FilingFault → ℕ → List ℕ
     → Option (List ℕ) → ℕ → ℕ → Type 0
-IsFiled writer old new planned (Ok filed) limit given left failures after = IsFileAs planned filed given
+IsFiled writer old new planned said (Ok filed) limit given left failures after = IsFileAs planned said filed given
     × (Ends Ended limit given left failures after × GoesTo writer given old new)
-IsFiled writer old new planned (Err fault) limit given left failures after =
+IsFiled writer old new planned said (Err fault) limit given left failures after =
     IsRefusedCopy writer old new fault limit given left failures after

@@ -1,9 +1,9 @@
-ghost use Rattle.std.specs.Prelude.{◌≡◌};
+ghost use Rattle.std.specs.Prelude.{◌≡◌, option_map};
 ghost use Rattle.dd_filing.specs.CopySteps.{version_answer};
 ghost use Rattle.dd_filing.specs.Filing.{IsCopyOfVersion, IsFiled};
 ghost use Rattle.dd_stream.specs.Reads.{ReadsUpTo};
 
-use crate::agreeing::Filed;
+use crate::agreeing::{Filed, Wanted};
 use crate::copying::{FilingFault, copy_found};
 use dd_elem::{Read, Write};
 use dd_keys::{KeyFault, one_version};
@@ -40,20 +40,21 @@ fn version_found(found: Result<Version, KeyFault>) -> Result<Option<Version>, Fi
     }
 }
 
-/// Copies as `copy_version` does, and compares the copy with the planned version.
+/// Copies as `copy_version` does, and compares the copy with the wanted version.
 pub fn file_image<R: Read, W: Write>(
     alloc: Global,
     reader: &mut R,
     writer: &mut W,
-    planned: &Version,
+    wanted: &Wanted<'_>,
     limit: u64,
 ) -> Result<Filed, FilingFault>
     ensures { ReadsUpTo R.Read limit reader.old reader.new
-        (IsFiled W.Write writer.old writer.new planned.now result limit) }
+        (IsFiled W.Write writer.old writer.new wanted.now.planned.now
+        (option_map (λ said. said.now) wanted.now.said) result limit) }
 {
     one_version();
     match copy_version(alloc, reader, writer, limit) {
-        Ok(Some(found)) => Ok(Filed::of(found.parts(), planned.parts())),
+        Ok(Some(found)) => Ok(Filed::of(&found, wanted)),
         Ok(None) => Ok(Filed::Mislabelled),
         Err(fault) => Err(fault),
     }

@@ -11,7 +11,7 @@ mod places;
 mod source_copies;
 mod tee;
 
-pub use agreeing::{Filed, one_filed};
+pub use agreeing::{Filed, Wanted, one_filed};
 pub use copying::FilingFault;
 pub use files_ahead::{FILES_AHEAD, FilesAhead};
 pub use filing::{copy_version, file_image};

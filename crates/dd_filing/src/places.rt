@@ -1,6 +1,6 @@
 //! Places for what is known of files before they are copied.
 
-ghost use Rattle.std.specs.Prelude.{◌≡◌, ◌<◌, ◌+◌, ◌++◌, ◌∷◌, [], Bool, false, get_or};
+ghost use Rattle.std.specs.Prelude.{◌≡◌, ◌<◌, ◌+◌, ◌++◌, ◌∷◌, [], Bool, false, get_or, option_map};
 ghost use Rattle.dd_stream.specs.Reads.{ReadsUpTo};
 ghost use Rattle.dd_filing.specs.Ahead.{ArePlaces, IsDigested, IsFoundBy, IsPlace, IsReadAhead, IsSentAhead};
 ghost use Rattle.dd_filing.specs.Ahead.{ahead_limit, files_of, found_with, known_of, shown};
@@ -8,7 +8,7 @@ ghost use Rattle.dd_filing.specs.Copies.{IsAheadCopy};
 ghost use Rattle.dd_filing.specs.declared.places.Ahead.TheVariants as known;
 ghost use Rattle.dd_filing.specs.declared.places.Found.TheVariants.{Absent, Nothing};
 
-use crate::agreeing::Filed;
+use crate::agreeing::{Filed, Wanted};
 use crate::copying::{FilingFault, filing_fault};
 use crate::source_copies::SourceCopy;
 use dd_elem::{Read, Write};
@@ -55,14 +55,19 @@ impl<'a> Model for FileAhead<'a> {
 }
 
 impl FileAhead<'_> {
-    /// Writes the file, and says whether it is one of the planned version. Unsent where the writer fails, after a
+    /// Writes the file, and says whether it is one of the wanted version. Unsent where the writer fails, after a
     /// first part; Unread where the reader of the file had failed.
-    pub fn copy_to<W: Write>(&self, writer: &mut W, planned: &Version) -> Result<Filed, FilingFault>
-        ensures { IsSentAhead W.Write writer.old writer.new planned.now result self.now }
+    pub fn copy_to<W: Write>(
+        &self,
+        writer: &mut W,
+        wanted: &Wanted<'_>,
+    ) -> Result<Filed, FilingFault>
+        ensures { IsSentAhead W.Write writer.old writer.new wanted.now.planned.now
+            (option_map (λ said. said.now) wanted.now.said) result self.now }
     {
         match send(self.bytes, writer, 0) {
             Ok(_) => match self.found {
-                Some(found) => Ok(Filed::of_found(found, planned)),
+                Some(found) => Ok(Filed::of_found(found, wanted)),
                 None => Err(FilingFault::Unread),
             },
             Err(_) => Err(FilingFault::Unsent),

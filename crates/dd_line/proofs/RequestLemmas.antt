@@ -86,7 +86,7 @@ says_parts (ToStage x) command given h =
       instances = sym (no_values (codes "instance") given (h.others (codes "instance") refl));
       dry_run = no_flag (codes "dry-run") given (h.others (codes "dry-run") refl);
       link = no_flag (codes "link") given (h.others (codes "link") refl);
-      keep_going = no_flag (codes "keep-going") given (h.others (codes "keep-going") refl);
+      keep_going = h.values.keep_going;
       json = h.values.json;
     }
 says_parts (ToPublish x) command given h =

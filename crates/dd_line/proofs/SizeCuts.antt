@@ -26,7 +26,8 @@ last_letters (x ∷ xs) (y ∷ ys) a b e =
 -- ---- the letter of a unit
 
 abbrev bytes_of : ℕ → ℕ
-bytes_of letter = if letter == 75 then 1024 else if letter == 77 then 1048576 else 1073741824
+bytes_of letter =
+    if letter == 75 then 1024 else if letter == 107 then 1024 else if letter == 77 then 1048576 else 1073741824
 
 -- the mark is one letter, which is no digit and has these bytes
 record IsLetter (mark : List ℕ) (bytes : ℕ) : Type 0 where
@@ -38,11 +39,17 @@ record IsLetter (mark : List ℕ) (bytes : ℕ) : Type 0 where
 letter_or_none : (mark : List ℕ) (bytes : ℕ) → IsUnit mark bytes
     → ((mark ≡ []) × (bytes ≡ 1)) ⊎ IsLetter mark bytes
 letter_or_none mark bytes (inl none) = inl none
-letter_or_none mark bytes (inr (inl k)) = inr (record {
+letter_or_none mark bytes (inr (inl (inl k, worth))) = inr (record {
   letter = 75;
-  alone = k.0;
+  alone = k;
   no_digit = λ few. omega (arith, few);
-  worth = sym k.1;
+  worth = sym worth;
+})
+letter_or_none mark bytes (inr (inl (inr k, worth))) = inr (record {
+  letter = 107;
+  alone = k;
+  no_digit = λ few. omega (arith, few);
+  worth = sym worth;
 })
 letter_or_none mark bytes (inr (inr (inl m))) = inr (record {
   letter = 77;
@@ -112,9 +119,10 @@ same_cut text digits others mark unit bytes cut is whole numeral =
 
 -- where nothing stands after the number, it ends in no letter of a unit
 pub no_letter : (text : List ℕ) → ((front : List ℕ) → text ≡ front ++ (75 ∷ []) → ⊥)
+    → ((front : List ℕ) → text ≡ front ++ (107 ∷ []) → ⊥)
     → ((front : List ℕ) → text ≡ front ++ (77 ∷ []) → ⊥) → ((front : List ℕ) → text ≡ front ++ (71 ∷ []) → ⊥)
     → IsCut text text 1
-no_letter text no_k no_m no_g = record {
+no_letter text no_k no_small no_m no_g = record {
   mark = [];
   whole = sym (append-nil text);
   is_unit = inl (refl, refl);
@@ -123,8 +131,10 @@ no_letter text no_k no_m no_g = record {
   where
     go : (front other : List ℕ) (bytes : ℕ) → IsUnit other bytes → text ≡ front ++ other → other ≡ []
     go front other bytes (inl none) whole = none.0
-    go front other bytes (inr (inl k)) whole =
-        absurd (no_k front (subst (λ (m : List ℕ). text ≡ front ++ m) k.0 whole))
+    go front other bytes (inr (inl (inl k, worth))) whole =
+        absurd (no_k front (subst (λ (m : List ℕ). text ≡ front ++ m) k whole))
+    go front other bytes (inr (inl (inr k, worth))) whole =
+        absurd (no_small front (subst (λ (m : List ℕ). text ≡ front ++ m) k whole))
     go front other bytes (inr (inr (inl m))) whole =
         absurd (no_m front (subst (λ (x : List ℕ). text ≡ front ++ x) m.0 whole))
     go front other bytes (inr (inr (inr g))) whole =

@@ -3,7 +3,7 @@
 --   dicomdir index [OPTIONS] [--files0-from FILE] [-k|--keep-going] OUT SRC...
 --   dicomdir merge [OPTIONS] [--files0-from FILE] [--link] OUT SET...
 --   dicomdir withdraw [OPTIONS] OUT SET UID...
---   dicomdir stage [--files0-from FILE] [--from FOLDER] [--quiet] [--verbose] [--json] PILE SRC...
+--   dicomdir stage [--files0-from FILE] [--from FOLDER] [-k|--keep-going] [--quiet] [--verbose] [--json] PILE SRC...
 --   dicomdir publish [OPTIONS] [--files0-from FILE] [--from FOLDER] [--link] OUT PILE...
 --   dicomdir check [--keys] [--strict] [--quiet] [--verbose] [--json] SET
 --   dicomdir list [--long] [--verbose] [--json] SET
@@ -181,10 +181,12 @@ abbrev pub showing_app : Text → App
 showing_app name =
     with_rule (with_rule (with_rule (new_app name) (flag quiet_name)) (flag verbose_name)) (flag json_name)
 
--- `stage`, with those flags, and `[--files0-from FILE] [--from FOLDER]`
+-- `stage`, with those flags, and `[--files0-from FILE] [--from FOLDER] [-k|--keep-going]`
 abbrev pub staging_app : App
-staging_app =
-    with_rule (with_rule (showing_app (verb_name Stage)) (text_option files0_from_name)) (text_option from_name)
+staging_app = with_rule (with_rule (with_rule (showing_app (verb_name Stage))
+    (text_option files0_from_name))
+    (text_option from_name))
+    (flag keep_going_name)
 
 -- all of it: those, and `PILE [SRC]...`, where PILE is the folder that it writes to
 abbrev pub stage_app : App
@@ -256,7 +258,7 @@ flags = (keys_name, Check ∷ [])
     ∷ (verbose_name, ListSet ∷ Check ∷ Stage ∷ makers)
     ∷ (long_name, ListSet ∷ [])
     ∷ (link_name, Merge ∷ Publish ∷ [])
-    ∷ (keep_going_name, Index ∷ [])
+    ∷ (keep_going_name, Index ∷ Stage ∷ [])
     ∷ (json_name, ListSet ∷ Check ∷ Stage ∷ makers)
     ∷ []
 
@@ -404,7 +406,7 @@ pub record FitsCommand (a : Asked) : Type 0 where
   pub quiet : a.verb ≡ ListSet → a.quiet ≡ false
   pub long : a.verb ≢ ListSet → a.long ≡ false
   pub link : a.verb ≢ Merge → a.verb ≢ Publish → a.link ≡ false
-  pub keep_going : a.verb ≢ Index → a.keep_going ≡ false
+  pub keep_going : a.verb ≢ Index → a.verb ≢ Stage → a.keep_going ≡ false
   pub files0_from : ¬ TakesSources a.verb → a.files0_from ≡ None
   pub from : a.verb ≢ Stage → a.verb ≢ Publish → a.from ≡ None
   pub sources : TakesSources a.verb → a.files0_from ≡ None → 2 ≤ length a.paths.items

@@ -135,6 +135,7 @@ pub record StagesAsGiven (x : StageRequest) (given : List Row) : Type 0 where
   pub pile : IsOnly line.out_name given (string_bytes x.pile)
   pub sources : HasSources line.source_name given x.sources
   pub from : option_map string_bytes x.from ≡ first_of line.from_name given
+  pub keep_going : x.keep_going ≡ is_given line.keep_going_name given
   pub quiet : x.quiet ≡ is_given line.quiet_name given
   pub verbose : x.verbose ≡ is_given line.verbose_name given
   pub json : x.json ≡ is_given line.json_name given
@@ -276,7 +277,7 @@ abbrev pub keeps_going : Request → Bool
 keeps_going (ToIndex x) = x.keep_going
 keeps_going (ToMerge x) = false
 keeps_going (ToWithdraw x) = false
-keeps_going (ToStage x) = false
+keeps_going (ToStage x) = x.keep_going
 keeps_going (ToPublish x) = false
 keeps_going (ToCheck x) = false
 keeps_going (ToList x) = false

@@ -4,7 +4,7 @@ use Rattle.std.specs.Str.Parse.{IsNumeral, signed_digits_value, without_leading_
 
 -- what stands after a number, and how many bytes it counts in
 abbrev pub IsUnit : List ℕ → ℕ → Type 0
-IsUnit mark bytes = ((mark ≡ []) × (bytes ≡ 1)) ⊎ (((mark ≡ codes "K") × (bytes ≡ 1024))
+IsUnit mark bytes = ((mark ≡ []) × (bytes ≡ 1)) ⊎ ((((mark ≡ codes "K") ⊎ (mark ≡ codes "k")) × (bytes ≡ 1024))
     ⊎ (((mark ≡ codes "M") × (bytes ≡ 1048576)) ⊎ ((mark ≡ codes "G") × (bytes ≡ 1073741824))))
 
 -- the text spells the number in decimal

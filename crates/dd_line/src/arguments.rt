@@ -1,5 +1,6 @@
 //! The arguments of the commands, as the parser gets them.
-ghost use Rattle.dd_line.specs.Line.{HasRule, any_paths, files0_from_name, flag, from_name, json_name, link_name};
+ghost use Rattle.dd_line.specs.Line.{HasRule, any_paths, files0_from_name, flag, from_name, json_name};
+ghost use Rattle.dd_line.specs.Line.{keep_going_name, link_name};
 ghost use Rattle.dd_line.specs.Line.{one_path, quiet_name, some_paths, text_option, verbose_name};
 
 use clap::{Arg, ArgAction};
@@ -94,6 +95,16 @@ pub(crate) fn json<'a>(alloc: Global) -> Arg<'a>
     ensures { HasRule (flag json_name) result }
 {
     flag(alloc, JSON, "Prints each line as a JSON object")
+}
+
+pub(crate) fn keep_going<'a>(alloc: Global) -> Arg<'a>
+    ensures { HasRule (flag keep_going_name) result }
+{
+    flag(
+        alloc,
+        KEEP_GOING,
+        "Skips a SRC that can't be opened or read; the status is then 3",
+    )
 }
 
 pub(crate) fn link<'a>(alloc: Global) -> Arg<'a>

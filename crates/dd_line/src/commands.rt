@@ -6,14 +6,14 @@ ghost use Rattle.dd_line.specs.Line.{linking_app, list_app, making_app, merge_ap
 ghost use Rattle.dd_line.specs.Line.{showing_app, stage_app, staging_app, withdraw_app, writing_app};
 
 use crate::arguments::{
-    self, any_paths, files0_from, flag, from, json, link, option, path, paths, quiet, verbose,
+    self, any_paths, files0_from, flag, from, json, keep_going, link, option, path, paths, quiet,
+    verbose,
 };
 use crate::endings;
 use crate::line::Verb;
-use crate::sizes::has_unit;
 use crate::version::VERSION;
 use clap::error::ErrorKind;
-use clap::{Command, Error, value_parser};
+use clap::{Command, Error};
 use std::alloc::{AllocError, Global};
 
 /// The options for the label of a directory and its size.
@@ -94,11 +94,7 @@ fn index_command<'a>(alloc: Global) -> Result<Command<'a>, AllocError>
     let command = writing_command(alloc, "index", about)?.after_help(endings::INDEX);
     command
         .arg(files0_from(alloc))?
-        .arg(flag(
-            alloc,
-            arguments::KEEP_GOING,
-            "Skips a SRC that can't be opened or read; the status is then 3",
-        ))?
+        .arg(keep_going(alloc))?
         .arg(any_paths(
             alloc,
             arguments::SOURCE,
@@ -168,13 +164,16 @@ fn showing_command<'a>(
         .arg(json(alloc))
 }
 
-/// Adds where the sources of a pile are looked up.
+/// Adds where the sources of a pile are looked up, and whether one that can't be read ends the run.
 fn staging_command<'a>(alloc: Global) -> Result<Command<'a>, AllocError>
     ensures { IfOk result (HasApp staging_app) }
 {
     let about = "Copies files to a pile, with a list of what they are, for publish";
     let command = showing_command(alloc, "stage", about)?.after_help(endings::STAGE);
-    command.arg(files0_from(alloc))?.arg(from(alloc))
+    command
+        .arg(files0_from(alloc))?
+        .arg(from(alloc))?
+        .arg(keep_going(alloc))
 }
 
 fn stage_command<'a>(alloc: Global) -> Result<Command<'a>, AllocError>
@@ -290,28 +289,11 @@ pub(crate) fn no_source(alloc: Global, verb: Verb) -> Result<Error, AllocError>
 pub(crate) fn wrong_limit(alloc: Global, verb: Verb, value: &str) -> Result<Error, AllocError>
     ensures { IfOk result (λ e. kind_of e ≡ ErrorKind.ValueValidation) }
 {
-    if !has_unit(value) {
-        if let Err(error) = number_in_line(alloc, value)? {
-            if error.kind() == ErrorKind::ValueValidation {
-                return Ok(error);
-            }
-        }
-    }
     let message = format!(in alloc;
-        "invalid value '{value}' for '--max-bytes <N>': more than 4294967295 bytes"
+        "invalid value '{value}' for '--max-bytes <N>': \
+        N is a number of at most 4294967295 bytes, which K, k, M or G may follow: 650M"
     )?;
     command_of(alloc, verb)?.error(ErrorKind::ValueValidation, message.as_str())
-}
-
-/// Has the parser say what is wrong with a number.
-fn number_in_line(alloc: Global, value: &str) -> Result<Result<(), Error>, AllocError> {
-    let number = option(alloc, arguments::MAX_BYTES, "N", "").value_parser(value_parser!(u32));
-    let command = Command::new(alloc, "dicomdir").arg(number)?;
-    let words = ["dicomdir", "--max-bytes", value];
-    Ok(match command.try_get_matches_from(&words) {
-        Ok(_) => Ok(()),
-        Err(error) => Err(error),
-    })
 }
 
 fn bare_program<'a>(alloc: Global) -> Command<'a>

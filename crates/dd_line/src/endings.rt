@@ -12,7 +12,7 @@ Status:
   0  The work is done.
   1  It was refused: the error output says why, as FAULT <path>: <fault>.
   2  The command line has a mistake. Nothing was read or made.
-  3  check found something, or index --keep-going a source that can't be read.
+  3  check found something, or a source that can't be read was skipped.
 
 'dicomdir COMMAND --help' says more of a command. The manual page dicomdir(1)
 and docs/FAULTS.md explain each fault and what to do about it.";
@@ -114,6 +114,8 @@ Each SRC is copied byte for byte, to PILE/000/000001 and so on. PILE/STAGED is a
 list that names it, and says what it is or what is wrong with it. No SKIP or
 NOTE is printed: publish prints them, as index does. A SRC that can't be opened
 or read ends the run, and PILE then has no list. Remove it and take a new one.
+With --keep-going such a SRC is listed, too, and the status is 3: publish skips
+it, and ends with 3.
 --from FOLDER looks up SRC and FILE in FOLDER. PILE is not looked up there.
 --files0-from FILE adds the names that FILE holds, each ended by a zero byte.
 Where FILE is -, they are read from the standard input.";
@@ -124,7 +126,8 @@ Example:
 
 Lines of the output:
   SKIP, NOTE, DONE and PLAN are those of 'dicomdir index' on all sources of the
-  piles, in their order. They name the sources as stage was given them.
+  piles, in their order. They name the sources as stage was given them. The
+  status is 3 where 'stage --keep-going' could not read one.
 
 The file-set is the one that index makes of these sources. Each image is
 compared with the list of its pile while it is copied.

@@ -113,6 +113,7 @@ fn stage_request(alloc: Global, given: &ArgMatches<'_>) -> Result<Request, LineF
         pile: path_of(alloc, given, arguments::OUT)?,
         sources: sources_of(alloc, Verb::Stage, given, arguments::SOURCE)?,
         from: value_of(alloc, given, arguments::FROM)?,
+        keep_going: flag_of(given, arguments::KEEP_GOING),
         quiet: flag_of(given, arguments::QUIET),
         verbose: flag_of(given, arguments::VERBOSE),
         json: flag_of(given, arguments::JSON),

@@ -61,7 +61,7 @@ pub struct Asked {
     pub long: bool,
     /// `--link`: `merge` and `publish` give images hard links in place of copies.
     pub link: bool,
-    /// `--keep-going`: `index` skips a source that can't be opened or read.
+    /// `--keep-going`: `index` and `stage` skip a source that can't be opened or read.
     pub keep_going: bool,
     /// `--json`: each line is printed as a JSON object.
     pub json: bool,
@@ -209,6 +209,7 @@ fn stage_line(alloc: Global, stage: StageRequest) -> Result<Asked, AllocError>
         pile,
         sources,
         from,
+        keep_going,
         quiet,
         verbose,
         json,
@@ -230,7 +231,7 @@ fn stage_line(alloc: Global, stage: StageRequest) -> Result<Asked, AllocError>
         verbose,
         long: false,
         link: false,
-        keep_going: false,
+        keep_going,
         json,
         files0_from,
         from,

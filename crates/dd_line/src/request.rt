@@ -134,6 +134,8 @@ pub struct StageRequest {
     pub sources: Sources,
     /// `--from`: the folder in which the sources and the file of names are looked up.
     pub from: Option<String>,
+    /// `--keep-going`: a source that can't be opened or read is skipped.
+    pub keep_going: bool,
     /// `--quiet`: no progress and no hints are shown.
     pub quiet: bool,
     /// `--verbose`: hints are shown where there is no terminal, too.

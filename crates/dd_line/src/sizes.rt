@@ -13,17 +13,14 @@ pub(crate) fn size_in(text: &str) -> Option<u32>
     number.checked_mul(unit)
 }
 
-/// Says whether the text is a number with a unit, however great.
-pub(crate) fn has_unit(text: &str) -> bool {
-    let (digits, unit) = parts(text);
-    unit != 1 && digits.parse::<u64>().is_ok()
-}
-
 /// Cuts the text before the letter of its unit, and gives the bytes of the unit.
 fn parts(text: &str) -> (&str, u32)
     ensures { IsCut text.entry.now result.0.now result.1 }
 {
     if let Some(digits) = text.strip_suffix('K') {
+        return (digits, 1 << 10);
+    }
+    if let Some(digits) = text.strip_suffix('k') {
         return (digits, 1 << 10);
     }
     if let Some(digits) = text.strip_suffix('M') {

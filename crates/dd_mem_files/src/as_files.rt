@@ -47,7 +47,7 @@ impl Files for MemFiles {
     }
 
     /// Opens the file at the path like `member`.
-    fn exact_file(&mut self, path: &str) -> Result<MemReader, NotThere>
+    fn exact_file(&mut self, _set: &str, path: &str) -> Result<MemReader, NotThere>
         ensures { OpensOrRefuses self.old self.new path.now result }
     {
         self.open_or_refuse(path)
@@ -152,7 +152,13 @@ impl Files for MemFiles {
 
     /// Does what `link` does where the file at `from` has `size` bytes. Changed where it has another number of bytes,
     /// unless the refusals are at their last value.
-    fn link_stored(&mut self, from: &str, path: &str, size: u64) -> Result<(), LinkFault>
+    fn link_stored(
+        &mut self,
+        _set: &str,
+        from: &str,
+        path: &str,
+        size: u64,
+    ) -> Result<(), LinkFault>
         ensures worked { IsOk result → HasWorked self.old.refusals self.new.refusals }
         ensures refused { IsErr result → self.new.refusals ≡ counted self.old.refusals }
         ensures may { IsOk result → self.old.planned.no_links ≡ false }
@@ -280,6 +286,14 @@ impl Hints for MemFiles {
     }
 
     fn show_line(&mut self, _pieces: &[&str])
+        ensures { self.new ≡ self.old }
+    {}
+
+    fn keep_line(&mut self, _pieces: &[&str])
+        ensures { self.new ≡ self.old }
+    {}
+
+    fn show_kept(&mut self)
         ensures { self.new ≡ self.old }
     {}
 }

@@ -14,7 +14,7 @@ use Rattle.dd_filing.specs.declared.source_copies.SourceCopy.{SourceCopy}
 use Rattle.dd_files.proofs.SaidFiles.{said_both, said_so}
 use Rattle.dd_files.proofs.OnePaths.{one_path}
 use Rattle.dd_pile.proofs.PilePaths.{list_apart}
-use Rattle.dd_pile.specs.Copies.{WritesCopy}
+use Rattle.dd_pile.specs.Copies.{WritesCopy, WritesFront}
 use Rattle.dd_pile.specs.Last.{HaveEnded, MakesListLast}
 use Rattle.dd_pile.specs.Paths.{IsCopyOfPile, IsCopyPath, IsListPath}
 
@@ -74,6 +74,18 @@ copy_ended pile number source copy a b c h closed =
     said_ended_all (IsCopyOfPile pile) a c
     (copy_whole pile number h.starts.path h.bytes a c h.starts.place h.starts.free
     (held_published h.starts.path h.bytes a h.start b c h.starts.started h.written closed))
+
+pub cut_ended : (pile : List ℕ) (number : ℕ) (a b c : Option Held) → WritesFront pile number a b
+    → c ≡ option_map ended b → IfSaid HaveEnded a c
+cut_ended pile number a b c h closed =
+    said_ended_all (IsCopyOfPile pile) a c
+    (copy_whole pile number h.starts.path h.bytes a c h.starts.place h.starts.free
+    (held_published h.starts.path h.bytes a h.start b c h.starts.started h.written closed))
+
+-- nothing was made
+pub none_ended : (pile : List ℕ) (a b : Option Held) → b ≡ a → IfSaid HaveEnded a b
+none_ended pile a b same =
+    said_ended_all (IsCopyOfPile pile) a b (said_whole_none (IsCopyOfPile pile) a b same)
 
 -- ---- the list is made last
 

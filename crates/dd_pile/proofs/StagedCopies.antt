@@ -1,72 +1,128 @@
 -- One copy more in a pile.
 use Rattle.std.proofs.Common.{◌≡◌, ◌∙◌, ◌+◌, ◌<◌, ℕ, zero, suc, List, []}
-use Rattle.std.proofs.Common.{◌∷◌, ◌++◌, Option, None, Some, Ok, Err, length, refl, sym}
+use Rattle.std.proofs.Common.{◌∷◌, ◌++◌, Option, None, Some, Result, Ok, Err, true, false, length, refl, sym}
 use Rattle.std.proofs.Common.{ap, get_or, map, take, subst, arith, inl, inr, ◌⊎◌}
 use Rattle.std.proofs.lemmas.List.{length-map, length_push, map_push, take_more}
 use Rattle.std.specs.List.{AllByRecursion}
-use Rattle.std.specs.Prelude.{IfErr, IfSome, option_map, slice_get}
+use Rattle.std.specs.Prelude.{IfErr, IfOk, IfSome, IsOk, option_map, slice_get}
 use Rattle.dd_engine.specs.Indexing.{Answer}
 use Rattle.dd_engine.specs.Supply.{IsOfSource}
 use Rattle.dd_files.proofs.FileLaws.{file_here, file_there}
 use Rattle.dd_files.proofs.KeptFiles.{all_then, held_published, new_keeps}
 use Rattle.dd_files.specs.Files.{Held, ended, published, stored}
 use Rattle.dd_filing.specs.declared.source_copies.SourceCopy.{SourceCopy}
-use Rattle.dd_staged.specs.Sources.{Source, WasRead, source_view}
+use Rattle.dd_staged.specs.Sources.{IsListed, Source, has_copy, source_view}
+use Rattle.dd_staged.specs.declared.source_fault.SourceFault.{SourceFault}
+use Rattle.dd_staged.specs.declared.source_fault.SourceFault.TheVariants.{Absent, BadName, Key, Unread}
+use Rattle.dd_version.specs.declared.parts.Parts.{Parts}
 use Rattle.dd_staged.specs.Stages.{stage_text}
 use Rattle.dd_staged.specs.declared.staged.Staged.{Staged}
 use Rattle.dd_files.proofs.SaidFiles.{said_both, said_by}
 use Rattle.dd_pile.proofs.ListLast.{list_stored}
-use Rattle.dd_pile.specs.Copies.{IsCopyOf, WritesCopy}
+use Rattle.dd_pile.specs.Copies.{IsCopyOf, WritesCopy, WritesFront}
 use Rattle.dd_files.specs.Keeping.{Adds, IfSaid, IsFree, Keeps, KeepsAll}
 use Rattle.dd_pile.specs.Last.{HaveEnded}
 use Rattle.dd_pile.specs.Paths.{IsCopyOfPile, IsCopyPath, IsListPath}
-use Rattle.dd_pile.specs.Piles.{CopiesStand, EachStaged, IsStaged, PileStands, StagesOne, WritesList}
+use Rattle.dd_pile.specs.Piles.{CopiesStand, EachStaged, HaveNames, IsCopied, IsListedAs, IsStaged, PileStands}
+use Rattle.dd_pile.specs.Piles.{StagesOne, WritesList, as_listed}
 use Rattle.dd_pile.specs.declared.source.StageSource.{StageSource}
 
 -- ---- a copy that has ended
 
+-- a version or a fault of a copy is listed as it was found
+listed_copy : (pile : List ℕ) (number : ℕ) (source : StageSource) (size : ℕ) (found : Answer) (a b : Held)
+    → IsCopied pile number source size found a b → IsListedAs pile number source size (as_listed found) a b
+listed_copy pile number source size (Ok parts) a b is = is
+listed_copy pile number source size (Err fault) a b is = is
+
 copy_stands : (pile : List ℕ) (number : ℕ) (source : StageSource) (copy : SourceCopy) (name path bytes : List ℕ)
-    (a c : Option Held) → IsCopyPath pile number path → IsFree path a → c ≡ option_map (published path bytes) a
-    → copy.size ≡ length bytes
+    (a c : Option Held) → source.is_bad_name ≡ false → IsCopyPath pile number path → IsFree path a
+    → c ≡ option_map (published path bytes) a → copy.size ≡ length bytes
     → IfSome a (λ files. IsCopyOf (files.bytes_at source.path.now) bytes copy.found)
-    → IfSaid (StagesOne pile number source (record { name = name; size = copy.size; found = copy.found })) a c
-copy_stands pile number source copy name path bytes None c place free made size of = made
-copy_stands pile number source copy name path bytes (Some held) c place free made size of =
-    let listed : Source = record { name = name; size = copy.size; found = copy.found } in
+    → IfSaid (StagesOne pile number source (record { name = name; size = copy.size; found = as_listed copy.found })) a c
+copy_stands pile number source copy name path bytes None c named place free made size of = made
+copy_stands pile number source copy name path bytes (Some held) c named place free made size of =
+    let listed : Source = record { name = name; size = copy.size; found = as_listed copy.found } in
     let kept = new_keeps held (published path bytes held) path (Some bytes) refl free in
     subst (λ (x : Option Held). IfSaid (StagesOne pile number source listed) (Some held) x) (sym made) (record {
       stays = kept;
-      staged = record {
+      staged = listed_copy pile number source copy.size copy.found held (published path bytes held) (record {
+        named = named;
         path = path;
         place = place;
         free = free;
         copy = bytes;
         made = file_here path (Some bytes) held.bytes_at;
-        size = size;
+        counted = size;
         of = record {
           bytes = of.bytes;
           stands = kept.stays source.path.now of.bytes of.stands;
           front = of.front;
           found = of.found;
         };
-      };
+      });
       others = λ other no. file_there path other (Some bytes) held.bytes_at
           (λ same. no (subst (λ (one : List ℕ). IsCopyPath pile number one) same place));
     })
 
 -- what was written is the copy, once it has ended
 pub staged_one : (pile : List ℕ) (number : ℕ) (source : StageSource) (copy : SourceCopy) (name : List ℕ)
-    (a b c : Option Held) → WritesCopy pile number source.path.now copy a b → c ≡ option_map ended b
-    → IfSaid (StagesOne pile number source (record { name = name; size = copy.size; found = copy.found })) a c
-staged_one pile number source copy name a b c h closed =
-    copy_stands pile number source copy name h.starts.path h.bytes a c h.starts.place h.starts.free
+    (a b c : Option Held) → source.is_bad_name ≡ false → WritesCopy pile number source.path.now copy a b
+    → c ≡ option_map ended b
+    → IfSaid (StagesOne pile number source (record { name = name; size = copy.size; found = as_listed copy.found })) a c
+staged_one pile number source copy name a b c named h closed =
+    copy_stands pile number source copy name h.starts.path h.bytes a c named h.starts.place h.starts.free
     (held_published h.starts.path h.bytes a h.start b c h.starts.started h.written closed) h.size h.of
 
--- no read of the source failed, and no allocation was refused
-pub was_read : (found : Answer) (name : List ℕ) (size : ℕ) → IfErr found IsOfSource
-    → WasRead (record { name = name; size = size; found = found })
-was_read (Ok version) name size settled = tt
-was_read (Err fault) name size settled = record { read = settled.0; memory = settled.1 }
+-- what can be listed of a copy: no read of the source failed, and no allocation was refused
+pub copy_listed : (found : Answer) (name : List ℕ) (size : ℕ) → IfErr found IsOfSource
+    → IsListed (record { name = name; size = size; found = as_listed found })
+copy_listed (Ok version) name size settled = tt
+copy_listed (Err fault) name size settled = record { read = settled.0; memory = settled.1 }
+
+pub copy_counts : (found : Answer) → has_copy (as_listed found) ≡ true
+copy_counts (Ok version) = refl
+copy_counts (Err fault) = refl
+
+-- ---- a source that was not read, as it is listed whatever stands
+
+module _ (pile : List ℕ) (number : ℕ) (source : StageSource) (listed : Source)
+    (is : (old new : Held) → IsStaged pile number source listed old new) where
+  -- nothing was made
+  pub skipped_one : (a c : Option Held) → c ≡ a → IfSaid (StagesOne pile number source listed) a c
+  skipped_one None c same = same
+  skipped_one (Some held) c same =
+      subst (λ (x : Option Held). IfSaid (StagesOne pile number source listed) (Some held) x) (sym same) (record {
+        stays = record { stays = λ path bytes stood. stood };
+        staged = is held held;
+        others = λ other no. refl;
+      })
+
+  cut_stands : (path bytes : List ℕ) (a c : Option Held) → IsCopyPath pile number path → IsFree path a
+      → c ≡ option_map (published path bytes) a → IfSaid (StagesOne pile number source listed) a c
+  cut_stands path bytes None c place free made = made
+  cut_stands path bytes (Some held) c place free made =
+      subst (λ (x : Option Held). IfSaid (StagesOne pile number source listed) (Some held) x) (sym made) (record {
+        stays = new_keeps held (published path bytes held) path (Some bytes) refl free;
+        staged = is held (published path bytes held);
+        others = λ other no. file_there path other (Some bytes) held.bytes_at
+            (λ same. no (subst (λ (one : List ℕ). IsCopyPath pile number one) same place));
+      })
+
+  -- a part of a copy was made, and has ended
+  pub cut_one : (a b c : Option Held) → WritesFront pile number a b → c ≡ option_map ended b
+      → IfSaid (StagesOne pile number source listed) a c
+  cut_one a b c h closed =
+      cut_stands h.starts.path h.bytes a c h.starts.place h.starts.free
+      (held_published h.starts.path h.bytes a h.start b c h.starts.started h.written closed)
+
+-- ---- what holds of a source as it is listed holds of what is answered
+
+pub view_so : {E : Type 0} (r : Result Staged E) (listed : Source) (P : Source → Type 0)
+    → IfOk r (λ staged. source_view staged ≡ listed) → (IsOk r → P listed)
+    → IfOk r (λ staged. P (source_view staged))
+view_so (Ok staged) listed P same is = subst P (sym same) (is refl)
+view_so (Err refusal) listed P same is = tt
 
 -- ---- after others
 
@@ -82,15 +138,16 @@ free_before a b path kept free = elim (none_or_some (a.bytes_at path)) [
 ]
 
 -- what was staged stands
-staged_still : (pile : List ℕ) (number : ℕ) (source : StageSource) (listed : Source) (a b c : Held) → KeepsAll b c
-    → IsStaged pile number source listed a b → IsStaged pile number source listed a c
-staged_still pile number source listed a b c kept h = record {
+copied_still : (pile : List ℕ) (number : ℕ) (source : StageSource) (size : ℕ) (answer : Answer) (a b c : Held)
+    → KeepsAll b c → IsCopied pile number source size answer a b → IsCopied pile number source size answer a c
+copied_still pile number source size answer a b c kept h = record {
+  named = h.named;
   path = h.path;
   place = h.place;
   free = h.free;
   copy = h.copy;
   made = kept.stays h.path h.copy h.made;
-  size = h.size;
+  counted = h.counted;
   of = record {
     bytes = h.of.bytes;
     stands = kept.stays source.path.now h.of.bytes h.of.stands;
@@ -99,17 +156,40 @@ staged_still pile number source listed a b c kept h = record {
   };
 }
 
-staged_since : (pile : List ℕ) (number : ℕ) (source : StageSource) (listed : Source) (a b c : Held) → KeepsAll a b
-    → IsStaged pile number source listed b c → IsStaged pile number source listed a c
-staged_since pile number source listed a b c kept h = record {
+staged_still : (pile : List ℕ) (number : ℕ) (source : StageSource) (listed : Source) (a b c : Held) → KeepsAll b c
+    → IsStaged pile number source listed a b → IsStaged pile number source listed a c
+staged_still pile number source listed a b c kept h = go listed.found h where
+  go : (found : Result Parts SourceFault) → IsListedAs pile number source listed.size found a b
+      → IsListedAs pile number source listed.size found a c
+  go (Ok parts) is = copied_still pile number source listed.size (Ok parts) a b c kept is
+  go (Err (Key fault)) is = copied_still pile number source listed.size (Err fault) a b c kept is
+  go (Err Absent) is = is
+  go (Err Unread) is = is
+  go (Err (BadName n)) is = is
+
+copied_since : (pile : List ℕ) (number : ℕ) (source : StageSource) (size : ℕ) (answer : Answer) (a b c : Held)
+    → KeepsAll a b → IsCopied pile number source size answer b c → IsCopied pile number source size answer a c
+copied_since pile number source size answer a b c kept h = record {
+  named = h.named;
   path = h.path;
   place = h.place;
   free = free_before a b h.path kept h.free;
   copy = h.copy;
   made = h.made;
-  size = h.size;
+  counted = h.counted;
   of = h.of;
 }
+
+staged_since : (pile : List ℕ) (number : ℕ) (source : StageSource) (listed : Source) (a b c : Held) → KeepsAll a b
+    → IsStaged pile number source listed b c → IsStaged pile number source listed a c
+staged_since pile number source listed a b c kept h = go listed.found h where
+  go : (found : Result Parts SourceFault) → IsListedAs pile number source listed.size found b c
+      → IsListedAs pile number source listed.size found a c
+  go (Ok parts) is = copied_since pile number source listed.size (Ok parts) a b c kept is
+  go (Err (Key fault)) is = copied_since pile number source listed.size (Err fault) a b c kept is
+  go (Err Absent) is = is
+  go (Err Unread) is = is
+  go (Err (BadName n)) is = is
 
 -- an element of a list with one more is one of the list, or the last
 last_or_before : {A : Type 0} (list : List A) (last one : A) (at : ℕ) → slice_get (list ++ last ∷ []) at ≡ Some one
@@ -213,17 +293,24 @@ pub pushed_more : (old new : List Staged) (one : Staged) (at : ℕ) → new ≡ 
 pushed_more old new one at is many =
     ap (λ (all : List Staged). length all) is ∙ length_push old one ∙ ap (λ (n : ℕ). n + 1) many
 
-all_more : (list : List Source) (one : Source) → AllByRecursion WasRead list → WasRead one
-    → AllByRecursion WasRead (list ++ one ∷ [])
-all_more [] one all last = (last, tt)
-all_more (first ∷ list) one all last = (all.0, all_more list one all.1 last)
+-- what holds of each so far and of one more
+all_more : (P : Source → Type 0) (list : List Source) (one : Source) → AllByRecursion P list → P one
+    → AllByRecursion P (list ++ one ∷ [])
+all_more P [] one all last = (last, tt)
+all_more P (first ∷ list) one all last = (all.0, all_more P list one all.1 last)
 
-pub read_more : (old new : List Staged) (one : Staged) → new ≡ old ++ one ∷ []
-    → AllByRecursion WasRead (map source_view old) → WasRead (source_view one)
-    → AllByRecursion WasRead (map source_view new)
-read_more old new one is before last =
-    subst (AllByRecursion WasRead) (sym (ap (map source_view) is ∙ map_push source_view old one))
-    (all_more (map source_view old) (source_view one) before last)
+pub each_more : (P : Source → Type 0) (old new : List Staged) (one : Staged) → new ≡ old ++ one ∷ []
+    → AllByRecursion P (map source_view old) → P (source_view one) → AllByRecursion P (map source_view new)
+each_more P old new one is before last =
+    subst (AllByRecursion P) (sym (ap (map source_view) is ∙ map_push source_view old one))
+    (all_more P (map source_view old) (source_view one) before last)
+
+-- a source of many is named where all are
+pub name_of : (sources : List StageSource) (at : ℕ) (d : StageSource) → at < length sources → HaveNames sources
+    → (get_or sources at d).is_bad_name ≡ false
+name_of [] at d within all = absurd (omega (arith, within))
+name_of (first ∷ sources) zero d within all = all.0
+name_of (first ∷ sources) (suc at) d within all = name_of sources at d (omega (arith, within)) all.1
 
 -- ---- with the list
 

@@ -1,8 +1,14 @@
 -- What files hold once sources were staged: their copies, the list of them, and what stood there before.
 use Rattle.std.specs.Prelude.{◌≡◌, ◌≢◌, ℕ, ◌+◌, ◌<◌, ◌≤◌, ◌^◌}
-use Rattle.std.specs.Prelude.{List, length, map, slice_get, Option, None, Some, option_map}
+use Rattle.std.specs.Prelude.{List, length, map, min, slice_get, Option, None, Some, option_map, true, false}
+use Rattle.std.specs.Prelude.{Result, Ok, Err}
+use Rattle.dd_engine.specs.Indexing.{Answer}
+use Rattle.dd_version.specs.declared.parts.Parts.{Parts}
+use Rattle.dd_staged.specs.declared.source_fault.SourceFault.{SourceFault}
+use Rattle.dd_staged.specs.declared.source_fault.SourceFault.TheVariants.{BadName, Key}
+use Rattle.std.specs.List.{AllByRecursion}
 use Rattle.dd_files.specs.Files.{Held, published}
-use Rattle.dd_staged.specs.Sources.{Source}
+use Rattle.dd_staged.specs.Sources.{Source, has_copy}
 use Rattle.dd_staged.specs.Stages.{IsStage, stage_text}
 use Rattle.dd_pile.specs.Copies.{IsCopyOf}
 use Rattle.dd_files.specs.Keeping.{IfSaid, IsFree, KeepsAll}
@@ -14,19 +20,41 @@ use Rattle.dd_pile.specs.declared.refusal.StageRefusal.{StageRefusal}
 use Rattle.dd_pile.specs.declared.source.StageSource.{StageSource}
 use Rattle.dd_pile.specs.declared.sum.StageSum.{StageSum}
 
--- The source with this number, from 1, is listed so: with the length of its copy, and with what is found in the file at
--- its path. The copy stands at its place, where no file stood.
-pub record IsStaged (pile : List ℕ) (number : ℕ) (source : StageSource) (listed : Source) (old new : Held)
+-- The copy of the source with this number, from 1, has this length, and stands at its place, where no file stood. This
+-- is found in the file at the path of the source.
+pub record IsCopied (pile : List ℕ) (number : ℕ) (source : StageSource) (size : ℕ) (answer : Answer) (old new : Held)
     : Type 0 where
+  pub named : source.is_bad_name ≡ false
   pub path : List ℕ
   pub place : IsCopyPath pile number path
   pub free : old.bytes_at path ≡ None
   pub copy : List ℕ
   pub made : new.bytes_at path ≡ Some copy
-  pub size : listed.size ≡ length copy
-  pub of : IsCopyOf (new.bytes_at source.path.now) copy listed.found
+  pub counted : size ≡ length copy
+  pub of : IsCopyOf (new.bytes_at source.path.now) copy answer
 
--- it was staged, what stood before is as it was, and nothing else was made
+-- what is found as it is listed
+abbrev pub as_listed : Answer → Result Parts SourceFault
+as_listed (Ok parts) = Ok parts
+as_listed (Err fault) = Err (Key fault)
+
+-- the number of a bad name, which has 32 bits, as the number of items of a list
+abbrev pub stage_number : ℕ → ℕ
+stage_number number = min number 0xffffffff
+
+-- The source with this number is listed with this length, and with what is found of it: in its copy, or why it was not
+-- read.
+abbrev pub IsListedAs : List ℕ → ℕ → StageSource → ℕ → Result Parts SourceFault → Held → Held → Type 0
+IsListedAs pile number source size (Ok parts) old new = IsCopied pile number source size (Ok parts) old new
+IsListedAs pile number source size (Err (Key fault)) old new = IsCopied pile number source size (Err fault) old new
+IsListedAs pile number source size (Err (BadName n)) old new =
+    (size ≡ 0) × ((source.is_bad_name ≡ true) × (n ≡ stage_number number))
+IsListedAs pile number source size (Err fault) old new = (size ≡ 0) × (source.is_bad_name ≡ false)
+
+abbrev pub IsStaged : List ℕ → ℕ → StageSource → Source → Held → Held → Type 0
+IsStaged pile number source listed old new = IsListedAs pile number source listed.size listed.found old new
+
+-- it was staged, what stood before is as it was, and nothing else was made but at the place of its copy
 pub record StagesOne (pile : List ℕ) (number : ℕ) (source : StageSource) (listed : Source) (old new : Held)
     : Type 0 where
   pub stays : KeepsAll old new
@@ -45,7 +73,8 @@ pub record IsOneOfCopies (pile : List ℕ) (count : ℕ) (path : List ℕ) : Typ
   pub within : at < count
   pub place : IsCopyPath pile (at + 1) path
 
--- The copies of the sources that are listed stand. What stood before is as it was, and nothing else was made.
+-- The copies of the sources that are listed stand. What stood before is as it was, and nothing else was made but at the
+-- places of copies.
 pub record CopiesStand (pile : List ℕ) (sources : List StageSource) (list : List Source) (old new : Held) : Type 0 where
   pub stays : KeepsAll old new
   pub each : EachStaged pile sources list old new
@@ -80,6 +109,13 @@ pub record MakesPile (pile : List ℕ) (sources : List StageSource) (sum : Stage
     pub stands : IfSaid (PileStands pile sources list) old new
     pub spelled : IsStage (stage_text list) list
     pub adds_up : AddsUp list sum
+
+-- each name is one
+abbrev pub HaveNames : List StageSource → Type 0
+HaveNames sources = AllByRecursion (λ source. source.is_bad_name ≡ false) sources
+
+abbrev pub HasCopy : Source → Type 0
+HasCopy listed = has_copy listed.found ≡ true
 
 -- ---- refusals
 

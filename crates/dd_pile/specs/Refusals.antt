@@ -2,6 +2,8 @@
 use Rattle.std.specs.Prelude.{◌≡◌, ◌⊎◌, ℕ}
 use Rattle.dd_elem.specs.declared.device.Read.{Ghosts as ReadOf}
 use Rattle.dd_files.specs.Reasons.{HasCounted, HasFailedReader}
+use Rattle.dd_staged.specs.declared.source_fault.SourceFault.{SourceFault}
+use Rattle.dd_staged.specs.declared.source_fault.SourceFault.TheVariants as skipped
 use Rattle.dd_pile.specs.declared.refusal.StageRefusal.{StageRefusal}
 use Rattle.dd_pile.specs.declared.refusal.StageRefusal.TheVariants.{Absent, CopyUnmade, CopyUnsent, FolderUnmade}
 use Rattle.dd_pile.specs.declared.refusal.StageRefusal.TheVariants.{ListTooLarge, ListUnmade, ListUnsent, Memory}
@@ -49,3 +51,9 @@ IsDueTo reads refusals failures ListUnsent = HasCounted refusals ⊎ HasCounted 
 IsDueTo reads refusals failures Unstored = HasCounted refusals
 IsDueTo reads refusals failures ListTooLarge = Unit {0}
 IsDueTo reads refusals failures Memory = Unit {0}
+
+-- the evidence for a source that is listed and was not read
+abbrev pub IsSkippedBy : {R : Type 0} → ReadOf R → ℕ → SourceFault → Type 0
+IsSkippedBy reads refusals skipped.Absent = HasCounted refusals
+IsSkippedBy reads refusals skipped.Unread = HasFailedReader reads
+IsSkippedBy reads refusals fault = Unit {0}

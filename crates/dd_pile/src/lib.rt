@@ -1,7 +1,7 @@
 //! Piles: folders that hold a copy of each of many sources, and the list of these, by which a file-set is made later.
 //!
-//! Its promise: a pile has the bytes of each source, and its list says of each what `index` finds in them.
-//! The list is created once every copy is stored.
+//! Its promise: a pile has the bytes of each source, and its list says of each what `index` finds in them, or that it
+//! was not read. The list is created once every copy is stored.
 #![tactic(auto)]
 
 mod copies;

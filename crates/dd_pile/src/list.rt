@@ -12,7 +12,7 @@ ghost use Rattle.dd_pile.specs.Paths.{IsListPath};
 ghost use Rattle.dd_pile.specs.Piles.{WritesList};
 ghost use Rattle.dd_pile.specs.Refusals.{IsDueTo, IsOfList};
 ghost use Rattle.dd_staged.specs.Refusals.{IsBadStage, sources_view};
-ghost use Rattle.dd_staged.specs.Sources.{WasRead, source_view};
+ghost use Rattle.dd_staged.specs.Sources.{IsListed, source_view};
 ghost use Rattle.dd_staged.specs.Stages.{IsStage, stage_text};
 
 use crate::paths::list_path;
@@ -37,7 +37,7 @@ pub(crate) fn write_list<F: Files>(
     ensures written { IsOk result → WritesList pile.now (map source_view list.now)
         (F.held files.old) (F.held files.new) }
     ensures stage { let sources = map source_view list.now
-        in IsOk result → AllByRecursion WasRead sources → IsStage (stage_text sources) sources }
+        in IsOk result → AllByRecursion IsListed sources → IsStage (stage_text sources) sources }
     ensures adds { IfSaid (Adds (IsListPath pile.now)) (F.held files.old) (F.held files.new) }
     ensures due { IfErr result (IsDueTo F.In.Read (F.refusals files.new) (F.Write.failures files.new)) }
 {
@@ -57,7 +57,7 @@ fn make_list<F: Files>(path: &str, list: &[Staged], files: &mut F) -> Result<(),
         ≡ option_map (published path.now (stage_text (map source_view list.now)))
         (F.held files.old) }
     ensures stage { let sources = map source_view list.now
-        in IsOk result → AllByRecursion WasRead sources → IsStage (stage_text sources) sources }
+        in IsOk result → AllByRecursion IsListed sources → IsStage (stage_text sources) sources }
     ensures adds { (pile : List ℕ) → IsListPath pile path.now
         → IfSaid (Adds (IsListPath pile)) (F.held files.old) (F.held files.new) }
     ensures due { IfErr result (IsDueTo F.In.Read (F.refusals files.new) (F.Write.failures files.new)) }
@@ -120,7 +120,7 @@ fn list_bytes<F: Files>(alloc: Global, pile: &str, files: &mut F) -> Result<Vec<
     ensures failed { result ≡ Err PileFault.Unread → HasFailedReader F.In.Read }
 {
     let path = list_path(alloc, pile)?;
-    let Ok(mut reader) = files.exact_file(path.as_str()) else {
+    let Ok(mut reader) = files.exact_file(pile, path.as_str()) else {
         return Err(PileFault::Absent);
     };
     match read_whole(alloc, &mut reader, SOURCE_LIMIT) {

@@ -34,20 +34,29 @@ pub(crate) fn read_ahead<F: Files>(
         if ahead.is_enough(lanes) {
             break;
         }
-        read_next(alloc, source.path, ahead, files);
+        read_next(alloc, source, ahead, files);
     }
     ahead.digest(lanes);
 }
 
-fn read_next<F: Files>(alloc: Global, path: &str, ahead: &mut FilesAhead, files: &mut F)
+fn read_next<F: Files>(
+    alloc: Global,
+    source: &StageSource<'_>,
+    ahead: &mut FilesAhead,
+    files: &mut F,
+)
     requires room { length ahead.old.files < 8 }
     requires due { AreDue (HasCounted (F.refusals files.old)) (HasFailedReader F.In.Read) ahead.old }
-    ensures read { ReadsNext path.now (F.held files.new) ahead.old ahead.new }
+    ensures read { ReadsNext source.now.path.now (F.held files.new) ahead.old ahead.new }
     ensures kept { F.held files.new ≡ F.held files.old }
     ensures due { AreDue (HasCounted (F.refusals files.new)) (HasFailedReader F.In.Read) ahead.new }
     ensures counts { HasCounted (F.refusals files.old) → HasCounted (F.refusals files.new) }
 {
-    match files.source(path) {
+    if source.is_bad_name {
+        ahead.skip();
+        return;
+    }
+    match files.source(source.path) {
         Ok(reader) if files.said_size(&reader) > AHEAD_LIMIT => ahead.skip(),
         Ok(mut reader) => ahead.read(alloc, &mut reader),
         Err(_) => ahead.refuse(),

@@ -5,4 +5,6 @@ pub struct StageSource<'a> {
     pub path: &'a str,
     /// Its name as the list says it, of any bytes.
     pub name: &'a [u8],
+    /// Whether the name is no path, since it is not UTF-8. It is not opened then.
+    pub is_bad_name: bool,
 }

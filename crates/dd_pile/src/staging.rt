@@ -1,15 +1,15 @@
 //! A pile made of sources.
 
-ghost use Rattle.std.specs.Prelude.{◌≡◌, ◌≢◌, Err, IfErr, IfOk, IsErr, IsOk, length, map, option_map};
+ghost use Rattle.std.specs.Prelude.{◌≡◌, ◌≢◌, false, Err, IfErr, IfOk, IsErr, IsOk, length, map, option_map};
 ghost use Rattle.std.specs.List.{AllByRecursion};
 ghost use Rattle.dd_files.specs.Files.{stored};
 ghost use Rattle.dd_files.specs.Keeping.{Adds, IfSaid};
 ghost use Rattle.dd_pile.specs.Last.{HaveEnded, MakesListLast};
 ghost use Rattle.dd_pile.specs.Paths.{IsCopyOfPile};
-ghost use Rattle.dd_pile.specs.Piles.{CopiesStand, HasNoRoom, IsRefusedInTurn, MakesPile};
+ghost use Rattle.dd_pile.specs.Piles.{CopiesStand, HasCopy, HasNoRoom, HaveNames, IsRefusedInTurn, MakesPile};
 ghost use Rattle.dd_pile.specs.Refusals.{IsDueTo};
 ghost use Rattle.dd_staged.specs.Refusals.{sources_view};
-ghost use Rattle.dd_staged.specs.Sources.{WasRead};
+ghost use Rattle.dd_staged.specs.Sources.{IsListed};
 
 use crate::copies::{Turn, stage_source};
 use crate::list::write_list;
@@ -27,12 +27,16 @@ use std::alloc::Global;
 ///
 /// A source of less than 8 MiB is read once, where memory allows. One without a version is copied and listed, too; of
 /// one with more than 4,294,967,295 bytes the copy has one byte more than these. The list is created once every copy is
-/// stored, and is then stored, too: wherever the power is cut, there is no new list, or every copy is there, whole. It
-/// ends with the first source that can't be opened, read or copied; what was made until then stays.
+/// stored, and is then stored, too: wherever the power is cut, there is no new list, or every copy is there, whole.
+///
+/// It ends with the first source that can't be opened, read or copied; what was made until then stays. Where it is to
+/// keep going, one that can't be opened or read is listed so, with a length of 0; what was copied of it counts for
+/// nothing. A source with a bad name is always listed so.
 pub fn stage_sources<F: Files + Progress>(
     alloc: Global,
     pile: &str,
     sources: &[StageSource<'_>],
+    keeps_going: bool,
     files: &mut F,
 ) -> Result<StageSum, StageRefusal>
     // A refusal that names a source comes once the copies of all sources before it were made.
@@ -42,6 +46,8 @@ pub fn stage_sources<F: Files + Progress>(
         → HasNoRoom pile.now sources.now (F.held files.old) (F.held files.new) }
     ensures made { IfOk result (λ sum. MakesPile pile.now sources.now sum
         (F.held files.old) (F.held files.new)) }
+    ensures all { keeps_going ≡ false → HaveNames sources.now
+        → IfOk result (λ sum. sum.unread ≡ 0) }
     ensures due { IfErr result (IsDueTo F.In.Read (F.refusals files.new) (F.Write.failures files.new)) }
 
     // Also after an Err: what stood before is as it was, and the list is created once all copies are stored.
@@ -50,7 +56,7 @@ pub fn stage_sources<F: Files + Progress>(
     if files.folder(pile).is_err() {
         return Err(StageRefusal::PileUnmade);
     }
-    let list = copy_sources(alloc, pile, sources, files)?;
+    let list = copy_sources(alloc, pile, sources, keeps_going, files)?;
     store(files)?;
     write_list(alloc, pile, &list, files)?;
     store(files)?;
@@ -62,6 +68,7 @@ fn copy_sources<F: Files + Progress>(
     alloc: Global,
     pile: &str,
     sources: &[StageSource<'_>],
+    keeps_going: bool,
     files: &mut F,
 ) -> Result<Vec<Staged>, StageRefusal>
     ensures refusal { IfErr result
@@ -73,7 +80,9 @@ fn copy_sources<F: Files + Progress>(
     ensures stand { IfOk result (λ list.
         IfSaid (CopiesStand pile.now sources.now (sources_view list))
         (F.held files.old) (F.held files.new)) }
-    ensures read { IfOk result (λ list. AllByRecursion WasRead (sources_view list)) }
+    ensures listed { IfOk result (λ list. AllByRecursion IsListed (sources_view list)) }
+    ensures all { keeps_going ≡ false → HaveNames sources.now
+        → IfOk result (λ list. AllByRecursion HasCopy (sources_view list)) }
     ensures adds { IfSaid (Adds (IsCopyOfPile pile.now)) (F.held files.old) (F.held files.new) }
     ensures ended { IsOk result → IfSaid HaveEnded (F.held files.old) (F.held files.new) }
     ensures due { IfErr result (IsDueTo F.In.Read (F.refusals files.new) (F.Write.failures files.new)) }
@@ -87,6 +96,7 @@ fn copy_sources<F: Files + Progress>(
             pile,
             at,
             source: *source,
+            keeps_going,
         };
         let staged = stage_source(alloc, &turn, ahead.next(), files)?;
         list.push(staged)?;

@@ -2,7 +2,7 @@
 use Rattle.std.proofs.Common.{◌≡◌, ◌≢◌, ℕ, ◌%◌, Bool, true, false, cond, eqb, List, [], ◌∷◌, ◌++◌, length}
 use Rattle.std.proofs.Common.{Option, Some, None, ◌+◌, ◌-◌, take, get_or, arith, append_assoc, length-append}
 use Rattle.std.proofs.Common.{Result, Ok, Err, refl, sym, ap, ◌∙◌, append-nil}
-use Rattle.std.proofs.lemmas.Nat.{from_le_bytes-to_le_bytes_8}
+use Rattle.std.proofs.lemmas.Nat.{from_le_bytes-to_le_bytes_4, from_le_bytes-to_le_bytes_8}
 use Rattle.byteorder.specs.Endian.{little_bytes}
 use Rattle.dd_elem.specs.Clean.{clean_of, is_padding}
 use Rattle.dd_elem.specs.Key.{IsKey}
@@ -25,11 +25,13 @@ use Rattle.dd_part10.specs.declared.fault.FileFault.{FileFault}
 use Rattle.dd_part10.specs.declared.fault.FileFault.TheVariants as file_faults
 use Rattle.dd_keys.specs.declared.fault.KeyFault.{KeyFault}
 use Rattle.dd_keys.specs.declared.fault.KeyFault.TheVariants as key_faults
-use Rattle.dd_staged.specs.Codes.{code_of, set_number}
+use Rattle.dd_staged.specs.declared.source_fault.SourceFault.{SourceFault}
+use Rattle.dd_staged.specs.declared.source_fault.SourceFault.TheVariants as source_faults
+use Rattle.dd_staged.specs.Codes.{code_of, key_code, set_number}
 use Rattle.dd_staged.specs.Forms.{name_value, padded}
-use Rattle.dd_staged.specs.Sources.{IsFault, IsFound, IsSource, IsTag, Source}
+use Rattle.dd_staged.specs.Sources.{IsFault, IsFound, IsSource, IsSourceFault, IsTag, Source, has_copy}
 use Rattle.dd_staged.specs.Stages.{fault_elements, source_elements, version_elements}
-use Rattle.dd_staged.specs.Values.{key_at, fault_in, last_of, name_in, parts_in, set_fault_of, source_in}
+use Rattle.dd_staged.specs.Values.{key_at, fault_in, last_of, name_in, parts_in, set_fault_of, size_in, source_in}
 
 -- ---- padding and ends go again
 
@@ -146,52 +148,79 @@ tag_back : (t : Tag) → IsTag t → tag_of (tag_text t) ≡ t
 tag_back t is = ap tag_of (sym (append-nil (tag_text t))) ∙ tag_again t [] is.0 is.1
 
 file_back : (name size : List ℕ) (fault : FileFault) → IsFault (key_faults.File fault)
-    → fault_in (elements_of (fault_elements name size (code_of (key_faults.File fault)))) ≡ key_faults.File fault
+    → fault_in (elements_of (fault_elements name size (key_code (key_faults.File fault))))
+    ≡ source_faults.Key (key_faults.File fault)
 file_back name size file_faults.NotPart10 is = refl
 file_back name size file_faults.GroupLength is = refl
 file_back name size (file_faults.MetaMissing t) is =
-    ap (λ (u : Tag). key_faults.File (file_faults.MetaMissing u)) (tag_back t is.names)
+    ap (λ (u : Tag). source_faults.Key (key_faults.File (file_faults.MetaMissing u))) (tag_back t is.names)
 file_back name size (file_faults.MetaUid t) is =
-    ap (λ (u : Tag). key_faults.File (file_faults.MetaUid u)) (tag_back t is.names)
+    ap (λ (u : Tag). source_faults.Key (key_faults.File (file_faults.MetaUid u))) (tag_back t is.names)
 file_back name size (file_faults.OtherSyntax uid) is =
-    ap (λ (u : List ℕ). key_faults.File (file_faults.OtherSyntax u)) (uid_back uid is.names)
+    ap (λ (u : List ℕ). source_faults.Key (key_faults.File (file_faults.OtherSyntax u))) (uid_back uid is.names)
 file_back name size (file_faults.Meta fault) is =
-    ap (λ (f : SetFault). key_faults.File (file_faults.Meta f)) (set_back fault
+    ap (λ (f : SetFault). source_faults.Key (key_faults.File (file_faults.Meta f))) (set_back fault
     (λ e. is.of_read.memory (rw e tt)))
 file_back name size (file_faults.Set fault) is =
-    ap (λ (f : SetFault). key_faults.File (file_faults.Set f)) (set_back fault
+    ap (λ (f : SetFault). source_faults.Key (key_faults.File (file_faults.Set f))) (set_back fault
     (λ e. is.of_read.memory (rw e tt)))
 
-fault_back : (name size : List ℕ) (fault : KeyFault) → IsFault fault
+key_fault_back : (name size : List ℕ) (fault : KeyFault) → IsFault fault
+    → fault_in (elements_of (fault_elements name size (key_code fault))) ≡ source_faults.Key fault
+key_fault_back name size (key_faults.File fault) is = file_back name size fault is
+key_fault_back name size (key_faults.NotImage uid) is =
+    ap (λ (u : List ℕ). source_faults.Key (key_faults.NotImage u)) (uid_back uid is.names)
+key_fault_back name size (key_faults.MissingKey t) is =
+    ap (λ (u : Tag). source_faults.Key (key_faults.MissingKey u)) (tag_back t is.names)
+key_fault_back name size (key_faults.BadKeyUid t) is =
+    ap (λ (u : Tag). source_faults.Key (key_faults.BadKeyUid u)) (tag_back t is.names)
+key_fault_back name size (key_faults.KeyTooLong t) is =
+    ap (λ (u : Tag). source_faults.Key (key_faults.KeyTooLong u)) (tag_back t is.names)
+key_fault_back name size (key_faults.KeyIsSequence t) is =
+    ap (λ (u : Tag). source_faults.Key (key_faults.KeyIsSequence u)) (tag_back t is.names)
+key_fault_back name size (key_faults.MetaMismatch t) is =
+    ap (λ (u : Tag). source_faults.Key (key_faults.MetaMismatch u)) (tag_back t is.names)
+key_fault_back name size key_faults.Read is = absurd (is.of_read.read refl)
+key_fault_back name size key_faults.FileTooLong is = refl
+key_fault_back name size key_faults.Memory is = absurd (is.of_read.memory tt)
+
+fault_back : (name size : List ℕ) (fault : SourceFault) → IsSourceFault fault
     → fault_in (elements_of (fault_elements name size (code_of fault))) ≡ fault
-fault_back name size (key_faults.File fault) is = file_back name size fault is
-fault_back name size (key_faults.NotImage uid) is = ap (λ (u : List ℕ). key_faults.NotImage u) (uid_back uid is.names)
-fault_back name size (key_faults.MissingKey t) is = ap (λ (u : Tag). key_faults.MissingKey u) (tag_back t is.names)
-fault_back name size (key_faults.BadKeyUid t) is = ap (λ (u : Tag). key_faults.BadKeyUid u) (tag_back t is.names)
-fault_back name size (key_faults.KeyTooLong t) is = ap (λ (u : Tag). key_faults.KeyTooLong u) (tag_back t is.names)
-fault_back name size (key_faults.KeyIsSequence t) is =
-    ap (λ (u : Tag). key_faults.KeyIsSequence u) (tag_back t is.names)
-fault_back name size (key_faults.MetaMismatch t) is =
-    ap (λ (u : Tag). key_faults.MetaMismatch u) (tag_back t is.names)
-fault_back name size key_faults.Read is = absurd (is.of_read.read refl)
-fault_back name size key_faults.FileTooLong is = refl
-fault_back name size key_faults.Memory is = absurd (is.of_read.memory tt)
+fault_back name size (source_faults.Key fault) is = key_fault_back name size fault is
+fault_back name size source_faults.Absent is = refl
+fault_back name size source_faults.Unread is = refl
+fault_back name size (source_faults.BadName number) is = ap source_faults.BadName (from_le_bytes-to_le_bytes_4 number is)
 
 -- ---- a source
 
 pub source_back : (source : Source) → IsSource source → source_in (elements_of (source_elements source)) ≡ source
-source_back source is = go source.found is.found where
-  go : (found : Result Parts KeyFault) → IsFound found
+source_back source is = go source.found is.found is.none where
+  go : (found : Result Parts SourceFault) → IsFound found → (has_copy found ≡ false → source.size ≡ 0)
       → source_in (elements_of (source_elements (record source { found = found }))) ≡ record source { found = found }
-  go (Ok parts) held =
+  go (Ok parts) held none =
       let name = name_back source.name in
       let size = from_le_bytes-to_le_bytes_8 source.size is.size in
       let same = parts_back source.name (little_bytes 8 source.size) parts held in
       λ i. record { name = name i; size = size i; found = Ok (same i) }
-  go (Err fault) held =
+  go (Err (source_faults.Key fault)) held none =
       let name = name_back source.name in
-      let size = from_le_bytes-to_le_bytes_8 source.size is.size in
-      let same = fault_back source.name (little_bytes 8 source.size) fault held in
+      let set = elements_of (fault_elements source.name (little_bytes 8 source.size) (key_code fault)) in
+      let same = fault_back source.name (little_bytes 8 source.size) (source_faults.Key fault) held in
+      let copy : size_in (Err (fault_in set)) set ≡ source.size =
+      ap (λ (f : SourceFault). size_in (Err f) set) same ∙ from_le_bytes-to_le_bytes_8 source.size is.size in
+      λ i. record { name = name i; size = copy i; found = Err (same i) }
+  go (Err source_faults.Absent) held none =
+      let name = name_back source.name in
+      let size : 0 ≡ source.size = sym (none refl) in
+      λ i. record { name = name i; size = size i; found = Err source_faults.Absent }
+  go (Err source_faults.Unread) held none =
+      let name = name_back source.name in
+      let size : 0 ≡ source.size = sym (none refl) in
+      λ i. record { name = name i; size = size i; found = Err source_faults.Unread }
+  go (Err (source_faults.BadName number)) held none =
+      let name = name_back source.name in
+      let size : 0 ≡ source.size = sym (none refl) in
+      let same = fault_back source.name (little_bytes 8 source.size) (source_faults.BadName number) held in
       λ i. record { name = name i; size = size i; found = Err (same i) }
 
 -- ---- values without padding

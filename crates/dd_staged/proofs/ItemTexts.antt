@@ -11,8 +11,9 @@ use Rattle.dd_staged.specs.declared.cell.Cell.{Cell}
 use Rattle.dd_staged.specs.declared.staged.Staged.{Staged}
 use Rattle.dd_staged.specs.Cells.{cell_element, cells_text}
 use Rattle.dd_staged.specs.Sources.{source_view}
-use Rattle.dd_staged.specs.Stages.{count_of, item_with, opening_text, source_elements, source_item, source_items}
-use Rattle.dd_staged.specs.Stages.{stage_text}
+use Rattle.dd_staged.specs.Stages.{count_of, item_with, list_text, opening_text, source_elements, source_item}
+use Rattle.dd_staged.specs.Stages.{source_items}
+use Rattle.dd_staged.proofs.Digested.{list_length}
 
 -- an item takes eight bytes more than its elements
 pub item_length : (es : List Element) → length (item_text (item_with es)) ≡ 8 + length (elements_text (elements_of es))
@@ -64,21 +65,18 @@ count_sources : (list : List Staged) → length list ≡ count_of (source_items 
 count_sources [] = refl
 count_sources (staged ∷ list) = ap suc (count_sources list)
 
--- the whole is sent as what stands before the items, the items, and the mark of their end
-pub stage_parts : (list : List Staged)
-    → opening_text (length list) ++ (sources_text list ++ sequence_end_text) ≡ stage_text (map source_view list)
-stage_parts list =
+-- the list is sent as what stands before the items, the items, and the mark of their end
+pub list_parts : (list : List Staged)
+    → opening_text (length list) ++ (sources_text list ++ sequence_end_text)
+    ≡ list_text (source_items (map source_view list))
+list_parts list =
     let rest = sources_text list ++ sequence_end_text in
     ap (λ (n : ℕ). opening_text n ++ rest) (count_sources list)
     ∙ ap (λ (text : List ℕ). opening_text (count_of (source_items (map source_view list))) ++ text)
     (sym (append-nil rest))
 
-pub stage_length : (list : List Staged) → length (stage_text (map source_view list)) ≡ 52 + length (sources_text list)
-stage_length list =
-    let one = length-append (opening_text (length list)) (sources_text list ++ sequence_end_text) in
-    let two = length-append (sources_text list) sequence_end_text in
-    sym (ap length (stage_parts list)) ∙ (omega (arith, one, two))
-
 -- so there are fewer sources than bytes
-pub count_fits : (list : List Staged) → length (stage_text (map source_view list)) < 2 ^ 32 → length list < 2 ^ 32
-count_fits list fits = omega (arith, stage_length list, count_within list, fits)
+pub count_fits : (list : List Staged) → length (list_text (source_items (map source_view list))) < 2 ^ 32
+    → length list < 2 ^ 32
+count_fits list fits =
+    omega (arith, list_length (source_items (map source_view list)), count_within list, fits)

@@ -1,5 +1,6 @@
 pub mod Back
 pub mod CellTexts
+pub mod Digested
 pub mod ItemTexts
 pub mod ReadItems
 pub mod ReadStage

@@ -7,7 +7,7 @@ use Rattle.byteorder.specs.Endian.{little_bytes}
 use Rattle.dd_encoding.specs.declared.syntax.Syntax.TheVariants.{Explicit}
 use Rattle.dd_encoding.specs.Elements.{Content, Element, Elements, Item, Items, bytes, element, elements_of}
 use Rattle.dd_encoding.specs.Elements.{fragments, item, items, items_of, no_elements, no_items}
-use Rattle.dd_encoding.specs.Spelling.{Spells, elements_text, items_text, sequence_end_text}
+use Rattle.dd_encoding.specs.Spelling.{Spells, elements_text, items_text}
 use Rattle.dd_grammar.proofs.Laws.{one_set}
 use Rattle.dd_grammar.specs.AnswersAs.{AnswersAs}
 use Rattle.dd_grammar.specs.Faults.{is_memory as is_memory_of_set}
@@ -24,8 +24,10 @@ use Rattle.dd_staged.specs.declared.staged.Staged.{Staged}
 use Rattle.dd_staged.specs.Refusals.{IsBadItem, IsBadStage, IsListOf, SpellsNone, is_memory}
 use Rattle.dd_staged.specs.Refusals.{sources_view, stage_fault_of}
 use Rattle.dd_staged.specs.Sources.{IsSource, Source}
-use Rattle.dd_staged.specs.Stages.{IsStage, count_of, front_elements, items_element, source_items}
-use Rattle.dd_staged.specs.Stages.{stage_set}
+use Rattle.dd_staged.specs.Stages.{EndsInDigest, IsStage, count_of, front_elements, items_element, set_with}
+use Rattle.dd_staged.specs.Stages.{source_items, stage_set}
+use Rattle.dd_staged.proofs.Digested.{ends_in_digest, items_within, right_digest, stage_digest}
+use Rattle.sha2.specs.Sha256.{sha256}
 use Rattle.dd_staged.proofs.ReadItems.{with_sources, with_sources-is}
 use Rattle.dd_staged.proofs.Valid.{one_list, stage_spells}
 
@@ -49,7 +51,7 @@ refused_is_bad text set_faults.Memory n only is = cc
 -- ---- the elements of a list
 
 -- elements and one more
-abbrev with_last : Elements → Element → Elements
+abbrev pub with_last : Elements → Element → Elements
 with_last no_elements last = element last.tag last.vr last.content no_elements
 with_last (element t vr c rest) last = element t vr c (with_last rest last)
 
@@ -101,33 +103,37 @@ view_split es last ends =
     ap elements_view (sym (split_at_last (length es - 1) es last long ends.is))
     ∙ view_joined (take (length es - 1) es) last
 
-pub list_joined : (es : List ElementValue) (last : ElementValue) (parts : Items) → EndsIn es last
-    → elements_view (take (length es - 1) es) ≡ elements_of (front_elements (little_bytes 4 (count_of parts)))
-    → element_view last ≡ items_element parts → elements_view es ≡ stage_set parts
-list_joined es last parts ends same is = view_split es last ends ∙ ap₂ with_last same is
+-- elements and one more, joined and taken apart
+pub both_joined : (es : List ElementValue) (last : ElementValue) (front : Elements) (end : Element) → EndsIn es last
+    → elements_view (take (length es - 1) es) ≡ front → element_view last ≡ end
+    → elements_view es ≡ with_last front end
+both_joined es last front end ends same is = view_split es last ends ∙ ap₂ with_last same is
 
-pub list_front : (es : List ElementValue) (last : ElementValue) (parts : Items) → EndsIn es last
-    → elements_view es ≡ stage_set parts
-    → elements_view (take (length es - 1) es) ≡ elements_of (front_elements (little_bytes 4 (count_of parts)))
-list_front es last parts ends is =
+pub first_part : (es : List ElementValue) (last : ElementValue) (front : Elements) (end : Element) → EndsIn es last
+    → elements_view es ≡ with_last front end → elements_view (take (length es - 1) es) ≡ front
+first_part es last front end ends is =
     sym (front_back (elements_view (take (length es - 1) es)) (element_view last))
-    ∙ ap front_of (sym (view_split es last ends) ∙ is)
+    ∙ ap front_of (sym (view_split es last ends) ∙ is) ∙ front_back front end
 
-pub list_last : (es : List ElementValue) (last : ElementValue) (parts : Items) → EndsIn es last
-    → elements_view es ≡ stage_set parts → element_view last ≡ items_element parts
-list_last es last parts ends is =
+pub last_part : (es : List ElementValue) (last : ElementValue) (front : Elements) (end : Element) → EndsIn es last
+    → elements_view es ≡ with_last front end → element_view last ≡ end
+last_part es last front end ends is =
     let other = element_view last in
     sym (last_back other (elements_view (take (length es - 1) es)) other)
-    ∙ ap (last_of other) (sym (view_split es last ends) ∙ is)
+    ∙ ap (last_of other) (sym (view_split es last ends) ∙ is) ∙ last_back other front end
+
+-- the elements before the items
+abbrev pub before_items : Items → Elements
+before_items parts = elements_of (front_elements (little_bytes 4 (count_of parts)))
 
 -- the items of their element
-abbrev items_within : Content → Items
-items_within (bytes v) = no_items
-items_within (items form parts) = parts
-items_within (fragments fs) = no_items
+abbrev items_held : Content → Items
+items_held (bytes v) = no_items
+items_held (items form parts) = parts
+items_held (fragments fs) = no_items
 
 pub same_items : (parts others : Items) → items_element parts ≡ items_element others → parts ≡ others
-same_items parts others same = ap (λ (e : Element). items_within e.content) same
+same_items parts others same = ap (λ (e : Element). items_held e.content) same
 
 pub count_items : (parts : List ItemValue) → count_of (items_view parts) ≡ length parts
 count_items [] = refl
@@ -146,9 +152,7 @@ count_within (item form set others) =
 pub count_small : (text : List ℕ) (parts : Items) → IsListOf text parts → count_of parts < 2 ^ 32
 count_small text parts list =
     let all : length text ≡ length (elements_text (stage_set parts)) = ap length list.spells.whole in
-    let one = length-append (items_text parts) sequence_end_text in
-    let two = length-append (items_text parts ++ sequence_end_text) [] in
-    omega (arith, all, one, two, count_within parts, list.short)
+    omega (arith, all, items_within parts, count_within parts, list.short)
 
 -- ---- a list with a bad item is no stage
 
@@ -177,7 +181,7 @@ bad_items (first ∷ good) others (source ∷ sources) each bad same = bad_items
 
 -- the items of a stage
 abbrev items_in : Elements → Items
-items_in (element t vr c (element u ur d (element v vs last rest))) = items_within last
+items_in (element t vr c (element u ur d (element v vs last rest))) = items_held last
 items_in set = no_items
 
 one_list_of : (text : List ℕ) (one other : Items) → IsListOf text one → IsListOf text other → one ≡ other
@@ -224,13 +228,22 @@ stage_found text parts sources list each same = record {
   short = list.short;
 }
 
--- the set of a list
-pub list_of : (text : List ℕ) (set : Elements) (parts : Items) → Spells Explicit set text
-    → set ≡ stage_set parts → length text < 2 ^ 32 → IsListOf text parts
-list_of text set parts spells is short = record {
-  spells = subst (λ (s : Elements). Spells Explicit s text) is spells;
-  short = short;
-}
+-- the set of a list with the digest of what stands before its last 44 bytes
+pub list_of : (text : List ℕ) (set : Elements) (parts : Items) (digest : List ℕ) → Spells Explicit set text
+    → length digest ≡ 32 → digest ≡ sha256 (take (length text - 44) text) → set ≡ set_with parts digest
+    → length text < 2 ^ 32 → IsListOf text parts
+list_of text set parts digest spells long right is short =
+    let whole : text ≡ elements_text (set_with parts digest) = spells.whole ∙ ap elements_text is in
+    let same : set ≡ stage_set parts =
+    is ∙ ap (λ (d : List ℕ). set_with parts d) (right_digest text parts digest long whole right) in
+    record { spells = subst (λ (s : Elements). Spells Explicit s text) same spells; short = short }
+
+-- the set of a list has that digest
+pub set_of_list : (text : List ℕ) (set : Elements) (parts : Items) (digest : List ℕ) → Spells Explicit set text
+    → digest ≡ sha256 (take (length text - 44) text) → IsListOf text parts → set ≡ set_with parts digest
+set_of_list text set parts digest spells right list =
+    one_set Explicit _ _ text spells list.spells
+    ∙ ap (λ (d : List ℕ). set_with parts d) (sym (right ∙ stage_digest text parts list.spells.whole))
 
 -- items that were read
 pub read_found : (text : List ℕ) (parts : Items) (result : Result (Vec Staged Global) StageFault) → IsListOf text parts
@@ -250,6 +263,11 @@ no_set_bad n text is absent = no_list_bad n text is (λ parts list. absent (stag
 pub read_bad : (n : ℕ) (text : List ℕ) (parts : Items) → IsListOf text parts → IsBadItem n parts → IsBadStage n text
 read_bad zero text parts list bad = let count = bad.count in omega (arith, count)
 read_bad (suc n) text parts list bad = record { parts = parts; list = list; item = bad }
+
+pub found_digest : (text : List ℕ) (result : Result (Vec Staged Global) StageFault)
+    → IfOk result (λ list. IsStage text (sources_view list)) → IfOk result (λ list. EndsInDigest text)
+found_digest text (Ok list) found = ends_in_digest text (source_items (sources_view list)) found.text
+found_digest text (Err fault) found = tt
 
 pub only_list : (text : List ℕ) (result : Result (Vec Staged Global) StageFault)
     → IfOk result (λ list. IsStage text (sources_view list))

@@ -1,12 +1,12 @@
--- A list of sources that were read is a list of sources, one after the other.
+-- A list of sources that can be listed is a list of sources, one after the other.
 use Rattle.std.proofs.Common.{◌≡◌, ℕ, ◌+◌, ◌<◌, ◌≤◌, List, ◌∷◌, length, map, drop, get_or, sym, ap, ◌∙◌, subst}
 use Rattle.std.specs.List.{AllByRecursion}
 use Rattle.std.proofs.lemmas.List.{at_drop_more, at_drop_all}
 use Rattle.dd_staged.specs.declared.staged.Staged.{Staged}
-use Rattle.dd_staged.specs.Sources.{IsSource, WasRead, source_view}
+use Rattle.dd_staged.specs.Sources.{IsListed, IsSource, source_view}
 
 abbrev pub IsSound : List Staged → Type 0
-IsSound list = AllByRecursion WasRead (map source_view list) → AllByRecursion IsSource (map source_view list)
+IsSound list = AllByRecursion IsListed (map source_view list) → AllByRecursion IsSource (map source_view list)
 
 -- the whole is where the rest is
 abbrev pub IsSoundFrom : ℕ → List Staged → Type 0
@@ -19,7 +19,7 @@ rest_at list i staged within is =
     ∙ ap (λ (s : Staged). s ∷ drop (i + 1) list) (sym is)
 
 pub sound_more : (list : List Staged) (i : ℕ) (staged : Staged) → i < length list → staged ≡ get_or list i staged
-    → (WasRead (source_view staged) → IsSource (source_view staged)) → IsSoundFrom i list → IsSoundFrom (i + 1) list
+    → (IsListed (source_view staged) → IsSource (source_view staged)) → IsSoundFrom i list → IsSoundFrom (i + 1) list
 sound_more list i staged within is one so_far rest =
     so_far (subst IsSound (sym (rest_at list i staged within is)) (λ read. (one read.0, rest read.1)))
 

@@ -28,15 +28,22 @@ use Rattle.dd_set.proofs.Counting.{element_first, part_first}
 use Rattle.dd_part10.specs.declared.fault.FileFault.TheVariants as file_faults
 use Rattle.dd_keys.specs.declared.fault.KeyFault.{KeyFault}
 use Rattle.dd_keys.specs.declared.fault.KeyFault.TheVariants as key_faults
-use Rattle.dd_staged.specs.Codes.{code_of}
+use Rattle.dd_staged.specs.declared.code.Code.{Code}
+use Rattle.dd_staged.specs.declared.source_fault.SourceFault.{SourceFault}
+use Rattle.dd_staged.specs.declared.source_fault.SourceFault.TheVariants as source_faults
+use Rattle.dd_staged.specs.Codes.{code_of, key_code}
 use Rattle.dd_staged.specs.Forms.{bytes_element, creator_element, name_value, padded, text_element}
 use Rattle.dd_staged.specs.Forms.{uid_element}
-use Rattle.dd_staged.specs.Sources.{IsFault, IsFound, IsSource, Names, Source}
+use Rattle.dd_staged.specs.Sources.{IsFound, IsSource, IsSourceFault, Names, Source}
 use Rattle.dd_staged.specs.Values.{source_in}
 use Rattle.dd_staged.proofs.Back.{source_back}
-use Rattle.dd_staged.specs.Stages.{IsStage, count_of, fault_elements, found_elements, item_with, source_elements}
-use Rattle.dd_staged.specs.Stages.{items_tag, size_element, source_items, stage_set, stage_text, version_elements}
+use Rattle.dd_staged.specs.Stages.{IsStage, count_of, fault_elements, found_elements, item_with, items_tag, list_text}
+use Rattle.dd_staged.specs.Stages.{set_with, size_element, source_elements, source_items, stage_set, stage_text}
+use Rattle.dd_staged.specs.Stages.{version_elements}
+use Rattle.dd_staged.proofs.Digested.{items_within}
 use Rattle.dd_staged.proofs.ItemTexts.{item_length}
+use Rattle.sha2.specs.Sha256.{sha256}
+use Rattle.sha2.proofs.Facts256.{length-sha256}
 
 -- ---- tests that compute
 
@@ -187,75 +194,83 @@ version_fits name size parts is short =
     also text_fits (tag 0x0020 0x0013) IS parts.number is.image.number
     also tt
 
+-- the numbers of a fault are four, and so are the bytes of a tag and of a number
+pub record HasFours (code : Code) : Type 0 where
+  pub numbers : length code.numbers ≡ 4
+  pub tag : length code.tag ≡ 4
+  pub place : length code.place ≡ 4
+
+fours : (code : Code) → length code.numbers ≡ 4 → length code.tag ≡ 4 → length code.place ≡ 4 → HasFours code
+fours code numbers tag place = record { numbers = numbers; tag = tag; place = place }
+
+has_fours : (fault : KeyFault) → HasFours (key_code fault)
+has_fours (key_faults.File file_faults.NotPart10) = fours _ refl refl refl
+has_fours (key_faults.File file_faults.GroupLength) = fours _ refl refl refl
+has_fours (key_faults.File (file_faults.MetaMissing t)) = fours _ refl refl refl
+has_fours (key_faults.File (file_faults.MetaUid t)) = fours _ refl refl refl
+has_fours (key_faults.File (file_faults.OtherSyntax uid)) = fours _ refl refl refl
+has_fours (key_faults.File (file_faults.Meta fault)) = fours _ refl refl refl
+has_fours (key_faults.File (file_faults.Set fault)) = fours _ refl refl refl
+has_fours (key_faults.NotImage uid) = fours _ refl refl refl
+has_fours (key_faults.MissingKey t) = fours _ refl refl refl
+has_fours (key_faults.BadKeyUid t) = fours _ refl refl refl
+has_fours (key_faults.KeyTooLong t) = fours _ refl refl refl
+has_fours (key_faults.KeyIsSequence t) = fours _ refl refl refl
+has_fours (key_faults.MetaMismatch t) = fours _ refl refl refl
+has_fours key_faults.Read = fours _ refl refl refl
+has_fours key_faults.FileTooLong = fours _ refl refl refl
+has_fours key_faults.Memory = fours _ refl refl refl
+
+code_fours : (fault : SourceFault) → HasFours (code_of fault)
+code_fours (source_faults.Key fault) = has_fours fault
+code_fours source_faults.Absent = fours _ refl refl refl
+code_fours source_faults.Unread = fours _ refl refl refl
+code_fours (source_faults.BadName number) = fours _ refl refl refl
+
+four_fits : (t : Tag) (vr : Vr) (v : List ℕ) → length v ≡ 4 → FitsElement (bytes_element t vr v)
+four_fits t vr v is = (omega (arith, is), short_fits vr _ (omega (arith, is)))
+
 -- what a fault names is short
-numbers_fit : (fault : KeyFault) → FitsElement (bytes_element (tag 0x0009 0x1008) OB (code_of fault).numbers)
-numbers_fit (key_faults.File file_faults.NotPart10) = (refl, omega arith)
-numbers_fit (key_faults.File file_faults.GroupLength) = (refl, omega arith)
-numbers_fit (key_faults.File (file_faults.MetaMissing t)) = (refl, omega arith)
-numbers_fit (key_faults.File (file_faults.MetaUid t)) = (refl, omega arith)
-numbers_fit (key_faults.File (file_faults.OtherSyntax uid)) = (refl, omega arith)
-numbers_fit (key_faults.File (file_faults.Meta fault)) = (refl, omega arith)
-numbers_fit (key_faults.File (file_faults.Set fault)) = (refl, omega arith)
-numbers_fit (key_faults.NotImage uid) = (refl, omega arith)
-numbers_fit (key_faults.MissingKey t) = (refl, omega arith)
-numbers_fit (key_faults.BadKeyUid t) = (refl, omega arith)
-numbers_fit (key_faults.KeyTooLong t) = (refl, omega arith)
-numbers_fit (key_faults.KeyIsSequence t) = (refl, omega arith)
-numbers_fit (key_faults.MetaMismatch t) = (refl, omega arith)
-numbers_fit key_faults.Read = (refl, omega arith)
-numbers_fit key_faults.FileTooLong = (refl, omega arith)
-numbers_fit key_faults.Memory = (refl, omega arith)
+key_uid_short : (fault : KeyFault) → Names fault → length (unwrap_or (key_code fault).uid []) ≤ 64
+key_uid_short (key_faults.File file_faults.NotPart10) is = omega arith
+key_uid_short (key_faults.File file_faults.GroupLength) is = omega arith
+key_uid_short (key_faults.File (file_faults.MetaMissing t)) is = omega arith
+key_uid_short (key_faults.File (file_faults.MetaUid t)) is = omega arith
+key_uid_short (key_faults.File (file_faults.OtherSyntax uid)) is = is.short
+key_uid_short (key_faults.File (file_faults.Meta fault)) is = omega arith
+key_uid_short (key_faults.File (file_faults.Set fault)) is = omega arith
+key_uid_short (key_faults.NotImage uid) is = is.short
+key_uid_short (key_faults.MissingKey t) is = omega arith
+key_uid_short (key_faults.BadKeyUid t) is = omega arith
+key_uid_short (key_faults.KeyTooLong t) is = omega arith
+key_uid_short (key_faults.KeyIsSequence t) is = omega arith
+key_uid_short (key_faults.MetaMismatch t) is = omega arith
+key_uid_short key_faults.Read is = omega arith
+key_uid_short key_faults.FileTooLong is = omega arith
+key_uid_short key_faults.Memory is = omega arith
 
-tag_fits : (fault : KeyFault) → FitsElement (bytes_element (tag 0x0009 0x1009) AT (code_of fault).tag)
-tag_fits (key_faults.File file_faults.NotPart10) = (refl, omega arith)
-tag_fits (key_faults.File file_faults.GroupLength) = (refl, omega arith)
-tag_fits (key_faults.File (file_faults.MetaMissing t)) = (refl, omega arith)
-tag_fits (key_faults.File (file_faults.MetaUid t)) = (refl, omega arith)
-tag_fits (key_faults.File (file_faults.OtherSyntax uid)) = (refl, omega arith)
-tag_fits (key_faults.File (file_faults.Meta fault)) = (refl, omega arith)
-tag_fits (key_faults.File (file_faults.Set fault)) = (refl, omega arith)
-tag_fits (key_faults.NotImage uid) = (refl, omega arith)
-tag_fits (key_faults.MissingKey t) = (refl, omega arith)
-tag_fits (key_faults.BadKeyUid t) = (refl, omega arith)
-tag_fits (key_faults.KeyTooLong t) = (refl, omega arith)
-tag_fits (key_faults.KeyIsSequence t) = (refl, omega arith)
-tag_fits (key_faults.MetaMismatch t) = (refl, omega arith)
-tag_fits key_faults.Read = (refl, omega arith)
-tag_fits key_faults.FileTooLong = (refl, omega arith)
-tag_fits key_faults.Memory = (refl, omega arith)
+uid_short : (fault : SourceFault) → IsSourceFault fault → length (unwrap_or (code_of fault).uid []) ≤ 64
+uid_short (source_faults.Key fault) is = key_uid_short fault is.names
+uid_short source_faults.Absent is = omega arith
+uid_short source_faults.Unread is = omega arith
+uid_short (source_faults.BadName number) is = omega arith
 
-uid_short : (fault : KeyFault) → Names fault → length (unwrap_or (code_of fault).uid []) ≤ 64
-uid_short (key_faults.File file_faults.NotPart10) is = omega arith
-uid_short (key_faults.File file_faults.GroupLength) is = omega arith
-uid_short (key_faults.File (file_faults.MetaMissing t)) is = omega arith
-uid_short (key_faults.File (file_faults.MetaUid t)) is = omega arith
-uid_short (key_faults.File (file_faults.OtherSyntax uid)) is = is.short
-uid_short (key_faults.File (file_faults.Meta fault)) is = omega arith
-uid_short (key_faults.File (file_faults.Set fault)) is = omega arith
-uid_short (key_faults.NotImage uid) is = is.short
-uid_short (key_faults.MissingKey t) is = omega arith
-uid_short (key_faults.BadKeyUid t) is = omega arith
-uid_short (key_faults.KeyTooLong t) is = omega arith
-uid_short (key_faults.KeyIsSequence t) is = omega arith
-uid_short (key_faults.MetaMismatch t) is = omega arith
-uid_short key_faults.Read is = omega arith
-uid_short key_faults.FileTooLong is = omega arith
-uid_short key_faults.Memory is = omega arith
-
-fault_fits : (name : List ℕ) (size : ℕ) (fault : KeyFault) → IsFault fault
+fault_fits : (name : List ℕ) (size : ℕ) (fault : SourceFault) → IsSourceFault fault
     → length (name_value name) < undefined_length
     → AllByRecursion FitsElement (fault_elements name (little_bytes 8 size) (code_of fault))
 fault_fits name size fault is short =
+    let four = code_fours fault in
     creator_fits
     also name_fits (tag 0x0009 0x1005) name short
     also size_fits size
-    also numbers_fit fault
-    also tag_fits fault
-    also uid_fits (tag 0x0009 0x100a) (unwrap_or (code_of fault).uid []) (uid_short fault is.names)
+    also four_fits (tag 0x0009 0x1008) OB _ four.numbers
+    also four_fits (tag 0x0009 0x1009) AT _ four.tag
+    also uid_fits (tag 0x0009 0x100a) (unwrap_or (code_of fault).uid []) (uid_short fault is)
+    also four_fits (tag 0x0009 0x100c) UL _ four.place
     also tt
 
 -- the elements of a source are those of a set
-found_valid : (levels : ℕ) (name : List ℕ) (size : ℕ) (found : Result Parts KeyFault) → IsFound found
+found_valid : (levels : ℕ) (name : List ℕ) (size : ℕ) (found : Result Parts SourceFault) → IsFound found
     → length (name_value name) < undefined_length
     → AreElements Explicit levels 0 (elements_of (found_elements name (little_bytes 8 size) found))
 found_valid levels name size (Ok parts) is short =
@@ -296,7 +311,7 @@ value_within (suc i) (e ∷ es) =
     let one = length-append (element_text e) (elements_text (elements_of es)) in
     omega (arith, all, one, value_within i es)
 
-name_within : (name size : List ℕ) (found : Result Parts KeyFault)
+name_within : (name size : List ℕ) (found : Result Parts SourceFault)
     → length (name_value name) ≤ length (elements_text (elements_of (found_elements name size found)))
 name_within name size (Ok parts) = value_within 11 (version_elements name size parts)
 name_within name size (Err fault) = value_within 1 (fault_elements name size (code_of fault))
@@ -319,36 +334,33 @@ items_valid levels (source ∷ sources) each short =
       items_valid levels sources each.1 (omega (arith, whole, sum, one, short)),
     )
 
-set_valid : (parts : Items) → AreItems Explicit max_levels parts
-    → AreElements Explicit max_levels 0 (stage_set parts)
-set_valid parts valid =
-    let last : Elements = element items_tag (Some SQ) (items Undefined parts) no_elements in
-    let third : AreElements Explicit max_levels (number_of (tag 0x0009 0x1003) + 1) last =
-    (omega arith, omega arith, omega arith, (λ e. omega arith), (valid, tt), tt, tt) in
+set_valid : (parts : Items) (digest : List ℕ) → length digest ≡ 32 → AreItems Explicit max_levels parts
+    → AreElements Explicit max_levels 0 (set_with parts digest)
+set_valid parts digest is valid =
+    let last : Elements = element (tag 0x0009 0x100b) (Some OB) (bytes digest) no_elements in
+    let fourth : AreElements Explicit max_levels (number_of items_tag + 1) last =
+    one_valid max_levels _ (tag 0x0009 0x100b) (Some OB) (bytes digest) no_elements tt tt
+    (digest_fits (tag 0x0009 0x100b) digest is) tt in
+    let listed : Elements = element items_tag (Some SQ) (items Undefined parts) last in
+    let third : AreElements Explicit max_levels (number_of (tag 0x0009 0x1003) + 1) listed =
+    (omega arith, omega arith, omega arith, (λ e. omega arith), (valid, tt), tt, fourth) in
     let count : Content = bytes (little_bytes 4 (count_of parts)) in
-    let more : Elements = element (tag 0x0009 0x1003) (Some UL) count last in
+    let more : Elements = element (tag 0x0009 0x1003) (Some UL) count listed in
     let second : AreElements Explicit max_levels (number_of creator_element.tag + 1) more =
-    one_valid max_levels _ (tag 0x0009 0x1003) (Some UL) count last tt tt (refl, omega arith) third in
+    one_valid max_levels _ (tag 0x0009 0x1003) (Some UL) count listed tt tt (refl, omega arith) third in
     one_valid max_levels 0 creator_element.tag creator_element.vr creator_element.content more tt tt
     (refl, omega arith) second
-
--- the items are within the whole
-items_within : (sources : List Source) → length (items_text (source_items sources)) + 52 ≡ length (stage_text sources)
-items_within sources =
-    let parts = items_text (source_items sources) in
-    let one = length-append parts sequence_end_text in
-    let two = length-append (parts ++ sequence_end_text) [] in
-    omega (arith, one, two)
 
 -- a stage is the spelling of its set
 pub stage_spells : (text : List ℕ) (sources : List Source) → IsStage text sources
     → Spells Explicit (stage_set (source_items sources)) text
 stage_spells text sources is =
-    let within = items_within sources in
+    let parts = source_items sources in
+    let within = items_within parts in
     let same : length text ≡ length (stage_text sources) = ap length is.text in
     record {
-      valid = set_valid (source_items sources) (items_valid 31 sources is.each
-          (omega (arith, within, same, is.short)));
+      valid = set_valid parts (sha256 (list_text parts)) (length-sha256 (list_text parts))
+          (items_valid 31 sources is.each (omega (arith, within, same, is.short)));
       whole = is.text;
       fits = omega (arith, is.short);
     }

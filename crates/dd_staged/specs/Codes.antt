@@ -1,5 +1,6 @@
--- Why a source has no version, as numbers with a tag or a UID.
+-- Why a source has no version, as numbers with a tag, a UID or the number of the source.
 use Rattle.std.specs.Prelude.{ℕ, List, [], ◌∷◌, Some, None}
+use Rattle.byteorder.specs.Endian.{little_bytes}
 use Rattle.dd_elem.specs.declared.tag.Tag.{Tag}
 use Rattle.dd_encoding.specs.Spelling.{tag_text}
 use Rattle.dd_grammar.specs.declared.fault.SetFault.{SetFault}
@@ -9,6 +10,8 @@ use Rattle.dd_part10.specs.declared.fault.FileFault.TheVariants as file_faults
 use Rattle.dd_keys.specs.declared.fault.KeyFault.{KeyFault}
 use Rattle.dd_keys.specs.declared.fault.KeyFault.TheVariants as key_faults
 use Rattle.dd_staged.specs.declared.code.Code.{Code}
+use Rattle.dd_staged.specs.declared.source_fault.SourceFault.{SourceFault}
+use Rattle.dd_staged.specs.declared.source_fault.SourceFault.TheVariants as source_faults
 
 -- A fault as four numbers: its own, the one of its cause, the one of what caused that, and a 0 that makes the length
 -- even. Where there is no cause the number is 0.
@@ -17,6 +20,7 @@ plain number cause deeper = record {
   numbers = number ∷ cause ∷ deeper ∷ 0 ∷ [];
   tag = 0 ∷ 0 ∷ 0 ∷ 0 ∷ [];
   uid = None;
+  place = 0 ∷ 0 ∷ 0 ∷ 0 ∷ [];
 }
 
 -- with a tag, and with a UID
@@ -48,14 +52,20 @@ file_code (file_faults.OtherSyntax uid) = at_uid 31 25 uid
 file_code (file_faults.Meta fault) = plain 31 26 (set_number fault)
 file_code (file_faults.Set fault) = plain 31 27 (set_number fault)
 
-abbrev pub code_of : KeyFault → Code
-code_of (key_faults.File fault) = file_code fault
-code_of (key_faults.NotImage uid) = at_uid 32 0 uid
-code_of (key_faults.MissingKey tag) = at_tag 33 0 tag
-code_of (key_faults.BadKeyUid tag) = at_tag 34 0 tag
-code_of (key_faults.KeyTooLong tag) = at_tag 35 0 tag
-code_of (key_faults.KeyIsSequence tag) = at_tag 36 0 tag
-code_of (key_faults.MetaMismatch tag) = at_tag 37 0 tag
-code_of key_faults.Read = plain 38 0 0
-code_of key_faults.FileTooLong = plain 39 0 0
-code_of key_faults.Memory = plain 91 0 0
+abbrev pub key_code : KeyFault → Code
+key_code (key_faults.File fault) = file_code fault
+key_code (key_faults.NotImage uid) = at_uid 32 0 uid
+key_code (key_faults.MissingKey tag) = at_tag 33 0 tag
+key_code (key_faults.BadKeyUid tag) = at_tag 34 0 tag
+key_code (key_faults.KeyTooLong tag) = at_tag 35 0 tag
+key_code (key_faults.KeyIsSequence tag) = at_tag 36 0 tag
+key_code (key_faults.MetaMismatch tag) = at_tag 37 0 tag
+key_code key_faults.Read = plain 38 0 0
+key_code key_faults.FileTooLong = plain 39 0 0
+key_code key_faults.Memory = plain 91 0 0
+
+abbrev pub code_of : SourceFault → Code
+code_of (source_faults.Key fault) = key_code fault
+code_of source_faults.Absent = plain 92 0 0
+code_of source_faults.Unread = plain 93 0 0
+code_of (source_faults.BadName number) = record (plain 99 0 0) { place = little_bytes 4 number }

@@ -1,5 +1,5 @@
 -- What is known of a source that was staged, and which sources there can be.
-use Rattle.std.specs.Prelude.{◌≡◌, ◌≢◌, ◌<◌, ◌^◌, ℕ, List, Result, Ok, Err, IfErr}
+use Rattle.std.specs.Prelude.{◌≡◌, ◌≢◌, ◌<◌, ◌^◌, ℕ, Bool, true, false, List, Result, Ok, Err, IfErr}
 use Rattle.dd_elem.specs.Uid.{IsUid}
 use Rattle.dd_elem.specs.declared.tag.Tag.{Tag}
 use Rattle.dd_version.specs.WellFormed.{IsWellFormed, IsWellFormedImage, IsWellFormedPatient, IsWellFormedSeries}
@@ -10,13 +10,15 @@ use Rattle.dd_part10.specs.declared.fault.FileFault.TheVariants as file_faults
 use Rattle.dd_keys.specs.Faults.{SaysMemory}
 use Rattle.dd_keys.specs.declared.fault.KeyFault.{KeyFault}
 use Rattle.dd_keys.specs.declared.fault.KeyFault.TheVariants as key_faults
+use Rattle.dd_staged.specs.declared.source_fault.SourceFault.{SourceFault}
+use Rattle.dd_staged.specs.declared.source_fault.SourceFault.TheVariants.{Absent, BadName, Key, Unread}
 use Rattle.dd_staged.specs.declared.staged.Staged.{Staged}
 
 -- its name as it was given, the length of its copy, and its version or fault
 pub record Source : Type 0 where
   pub name : List ℕ
   pub size : ℕ
-  pub found : Result Parts KeyFault
+  pub found : Result Parts SourceFault
 
 abbrev pub source_view : Staged → Source
 source_view s = record { name = s.name.items; size = s.size; found = s.found }
@@ -60,17 +62,35 @@ pub record IsFault (fault : KeyFault) : Type 0 where
   pub of_read : IsOfRead fault
   pub names : Names fault
 
+-- of a source: the number of a bad name has 32 bits
+abbrev pub IsSourceFault : SourceFault → Type 0
+IsSourceFault (Key fault) = IsFault fault
+IsSourceFault Absent = Unit {0}
+IsSourceFault Unread = Unit {0}
+IsSourceFault (BadName number) = number < 2 ^ 32
+
 -- ---- a source
 
-abbrev pub IsFound : Result Parts KeyFault → Type 0
+abbrev pub IsFound : Result Parts SourceFault → Type 0
 IsFound (Ok parts) = IsWellFormed parts
-IsFound (Err fault) = IsFault fault
+IsFound (Err fault) = IsSourceFault fault
 
--- the length of its copy has 64 bits
+-- it was read, so that its copy counts
+abbrev pub has_copy : Result Parts SourceFault → Bool
+has_copy (Ok parts) = true
+has_copy (Err (Key fault)) = true
+has_copy (Err fault) = false
+
+-- the length of its copy has 64 bits, and is 0 where none counts
 pub record IsSource (source : Source) : Type 0 where
   pub size : source.size < 2 ^ 64
   pub found : IsFound source.found
+  pub none : has_copy source.found ≡ false → source.size ≡ 0
 
--- it was read, and has a version or a fault of what was read
-abbrev pub WasRead : Source → Type 0
-WasRead source = IfErr source.found IsOfRead
+-- what `write_stage` can list: a version, a fault of what was read, or with a length of 0 why nothing was
+abbrev pub IsListedFault : ℕ → SourceFault → Type 0
+IsListedFault size (Key fault) = IsOfRead fault
+IsListedFault size fault = size ≡ 0
+
+abbrev pub IsListed : Source → Type 0
+IsListed source = IfErr source.found (IsListedFault source.size)

@@ -4,6 +4,7 @@ use Rattle.std.specs.Prelude.{◌≡◌, ◌<◌, ◌^◌, ℕ, suc, List, [], �
 use Rattle.std.specs.Prelude.{unwrap_or}
 use Rattle.std.specs.List.{AllByRecursion}
 use Rattle.byteorder.specs.Endian.{little_bytes}
+use Rattle.sha2.specs.Sha256.{sha256}
 use Rattle.dd_elem.specs.declared.tag.Tag.{Tag}
 use Rattle.dd_elem.specs.declared.vr.Vr.TheVariants.{AT, CS, DA, IS, LO, OB, PN, SH, SQ, TM, UL, UV}
 use Rattle.dd_version.specs.Fitting.{tag}
@@ -11,8 +12,9 @@ use Rattle.dd_version.specs.declared.parts.Parts.{Parts}
 use Rattle.dd_encoding.specs.declared.syntax.Length.TheVariants.{Defined, Undefined}
 use Rattle.dd_encoding.specs.Elements.{Elements, Element, Item, Items, elements_of, item, items, items_of, no_items}
 use Rattle.dd_encoding.specs.Spelling.{elements_text, header_text, undefined_length}
-use Rattle.dd_keys.specs.declared.fault.KeyFault.{KeyFault}
+use Rattle.dd_set.specs.Single.{element_text}
 use Rattle.dd_staged.specs.declared.code.Code.{Code}
+use Rattle.dd_staged.specs.declared.source_fault.SourceFault.{SourceFault}
 use Rattle.dd_staged.specs.Codes.{code_of}
 use Rattle.dd_staged.specs.Forms.{bytes_element, text_element, uid_element, name_value, creator_element}
 use Rattle.dd_staged.specs.Sources.{IsSource, Source}
@@ -50,7 +52,7 @@ version_elements name size parts =
     ∷ text_element (tag 0x0020 0x0013) IS parts.number
     ∷ []
 
--- a source without one: the numbers of its fault, and the tag and the UID that the fault names
+-- a source without one: the numbers of its fault, and the tag, the UID and the number that the fault names
 abbrev pub fault_elements : List ℕ → List ℕ → Code → List Element
 fault_elements name size code =
     creator_element
@@ -59,9 +61,10 @@ fault_elements name size code =
     ∷ bytes_element (tag 0x0009 0x1008) OB code.numbers
     ∷ bytes_element (tag 0x0009 0x1009) AT code.tag
     ∷ uid_element (tag 0x0009 0x100a) (unwrap_or code.uid [])
+    ∷ bytes_element (tag 0x0009 0x100c) UL code.place
     ∷ []
 
-abbrev pub found_elements : List ℕ → List ℕ → Result Parts KeyFault → List Element
+abbrev pub found_elements : List ℕ → List ℕ → Result Parts SourceFault → List Element
 found_elements name size (Ok parts) = version_elements name size parts
 found_elements name size (Err fault) = fault_elements name size (code_of fault)
 
@@ -78,7 +81,7 @@ source_item source = item_with (source_elements source)
 abbrev pub source_items : List Source → Items
 source_items sources = items_of (map source_item sources)
 
--- the whole: the creator of the block, the number of items, and the items in a sequence that a delimiter ends
+-- the list: the creator of the block, the number of items, and the items in a sequence that a delimiter ends
 abbrev pub count_of : Items → ℕ
 count_of no_items = 0
 count_of (item form set others) = suc (count_of others)
@@ -92,11 +95,23 @@ items_tag = tag 0x0009 0x1004
 abbrev pub items_element : Items → Element
 items_element parts = record { tag = items_tag; vr = Some SQ; content = items Undefined parts }
 
-abbrev pub stage_set : Items → Elements
-stage_set parts = elements_of (
-    creator_element ∷ count_element (little_bytes 4 (count_of parts)) ∷ items_element parts ∷ [])
+abbrev pub list_elements : Items → List Element
+list_elements parts = creator_element ∷ count_element (little_bytes 4 (count_of parts)) ∷ items_element parts ∷ []
 
--- its bytes
+abbrev pub list_text : Items → List ℕ
+list_text parts = elements_text (elements_of (list_elements parts))
+
+-- after it the SHA-256 (FIPS 180-4) of its bytes
+abbrev pub digest_element : List ℕ → Element
+digest_element digest = bytes_element (tag 0x0009 0x100b) OB digest
+
+abbrev pub set_with : Items → List ℕ → Elements
+set_with parts digest = elements_of (list_elements parts ++ digest_element digest ∷ [])
+
+abbrev pub stage_set : Items → Elements
+stage_set parts = set_with parts (sha256 (list_text parts))
+
+-- the bytes of the whole
 abbrev pub stage_text : List Source → List ℕ
 stage_text sources = elements_text (stage_set (source_items sources))
 
@@ -110,7 +125,12 @@ abbrev pub opening_text : ℕ → List ℕ
 opening_text count = elements_text (elements_of (front_elements (little_bytes 4 count)))
     ++ header_text items_tag (Some SQ) undefined_length
 
--- ---- the relation
+-- ---- the relations
+
+-- the bytes end in an element with the digest of those before it
+pub record EndsInDigest (bytes : List ℕ) : Type 0 where
+  pub before : List ℕ
+  pub whole : bytes ≡ before ++ element_text (digest_element (sha256 before))
 
 -- the bytes spell the list
 pub record IsStage (bytes : List ℕ) (sources : List Source) : Type 0 where

@@ -1,7 +1,7 @@
 -- The source that an item says.
 use Rattle.std.specs.Prelude.{ℕ, ◌-◌, ◌==◌, if◌then◌else◌, List, [], Option, Some, None, length, replicate}
 use Rattle.std.specs.Prelude.{is_some, unwrap_or, Result, Ok, Err, get_or, slice_index, take}
-use Rattle.std.specs.Int.{from_le_bytes, w64}
+use Rattle.std.specs.Int.{from_le_bytes, w32, w64}
 use Rattle.dd_elem.specs.declared.tag.Tag.{Tag}
 use Rattle.dd_version.specs.Fitting.{tag}
 use Rattle.dd_version.specs.declared.parts.Parts.{Parts}
@@ -14,7 +14,9 @@ use Rattle.dd_part10.specs.declared.fault.FileFault.{FileFault}
 use Rattle.dd_part10.specs.declared.fault.FileFault.TheVariants as file_faults
 use Rattle.dd_keys.specs.declared.fault.KeyFault.{KeyFault}
 use Rattle.dd_keys.specs.declared.fault.KeyFault.TheVariants as key_faults
-use Rattle.dd_staged.specs.Sources.{Source}
+use Rattle.dd_staged.specs.declared.source_fault.SourceFault.{SourceFault}
+use Rattle.dd_staged.specs.declared.source_fault.SourceFault.TheVariants as source_faults
+use Rattle.dd_staged.specs.Sources.{Source, has_copy}
 
 -- the value at a tag, without its padding; empty where the element is absent
 abbrev pub key_at : Tag → Elements → List ℕ
@@ -96,8 +98,8 @@ file_fault_of n deeper t uid =
     else (if n == 26 then file_faults.Meta (set_fault_of deeper)
     else file_faults.Set (set_fault_of deeper))))))
 
-abbrev pub fault_of : List ℕ → Tag → List ℕ → KeyFault
-fault_of numbers t uid =
+abbrev pub key_fault_of : List ℕ → Tag → List ℕ → KeyFault
+key_fault_of numbers t uid =
     let n = slice_index numbers 0 in
     if n == 31 then key_faults.File (file_fault_of (slice_index numbers 1) (slice_index numbers 2) t uid)
     else (if n == 32 then key_faults.NotImage uid
@@ -108,18 +110,35 @@ fault_of numbers t uid =
     else (if n == 37 then key_faults.MetaMismatch t
     else key_faults.FileTooLong))))))
 
-abbrev pub fault_in : Elements → KeyFault
-fault_in set = fault_of (sized 4 (raw_at (tag 0x0009 0x1008) set)) (tag_of (sized 4 (raw_at (tag 0x0009 0x1009) set)))
+abbrev pub numbers_in : Elements → List ℕ
+numbers_in set = sized 4 (raw_at (tag 0x0009 0x1008) set)
+
+abbrev pub key_fault_in : Elements → KeyFault
+key_fault_in set = key_fault_of (numbers_in set) (tag_of (sized 4 (raw_at (tag 0x0009 0x1009) set)))
     (key_at (tag 0x0009 0x100a) set)
 
--- ---- the source: it has a version where the item has a class
+abbrev pub place_in : Elements → ℕ
+place_in set = from_le_bytes w32 (sized 4 (raw_at (tag 0x0009 0x100c) set))
 
-abbrev pub found_in : Elements → Result Parts KeyFault
+abbrev pub fault_in : Elements → SourceFault
+fault_in set =
+    let n = slice_index (numbers_in set) 0 in
+    if n == 92 then source_faults.Absent
+    else (if n == 93 then source_faults.Unread
+    else (if n == 99 then source_faults.BadName (place_in set)
+    else source_faults.Key (key_fault_in set)))
+
+-- ---- the source: it has a version where the item has a class, and a length where it has a copy
+
+abbrev pub found_in : Elements → Result Parts SourceFault
 found_in set = if is_some (find_in (tag 0x0004 0x1510) set) then Ok (parts_in set) else Err (fault_in set)
+
+abbrev pub size_in : Result Parts SourceFault → Elements → ℕ
+size_in found set = if has_copy found then from_le_bytes w64 (sized 8 (raw_at (tag 0x0009 0x1006) set)) else 0
 
 abbrev pub source_in : Elements → Source
 source_in set = record {
   name = name_in (raw_at (tag 0x0009 0x1005) set);
-  size = from_le_bytes w64 (sized 8 (raw_at (tag 0x0009 0x1006) set));
+  size = size_in (found_in set) set;
   found = found_in set;
 }

@@ -93,7 +93,11 @@ impl Cell<'_> {
     }
 }
 
-fn send_cell<W: Write>(cell: &Cell<'_>, writer: &mut W, sent: u64) -> Result<u64, WriteFault>
+pub(crate) fn send_cell<W: Write>(
+    cell: &Cell<'_>,
+    writer: &mut W,
+    sent: u64,
+) -> Result<u64, WriteFault>
     requires room { HasRoom cell.now }
     requires small { length (element_text (cell_element cell.now)) < 2 ^ 32 }
     requires fits { sent + length (element_text (cell_element cell.now)) < 2 ^ 64 }

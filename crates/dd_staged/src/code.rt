@@ -1,9 +1,10 @@
-//! Faults as numbers, with a tag or a UID.
+//! Faults as numbers, with a tag, a UID or the number of a source.
 
 ghost use Rattle.std.specs.Prelude.{◌≡◌};
 ghost use Rattle.dd_encoding.specs.Spelling.{tag_text};
-ghost use Rattle.dd_staged.specs.Codes.{at_tag, at_uid, code_of, file_code, plain, set_number};
+ghost use Rattle.dd_staged.specs.Codes.{at_tag, at_uid, code_of, file_code, key_code, plain, set_number};
 
+use crate::source_fault::SourceFault;
 use byteorder::{ByteOrder, LittleEndian};
 use dd_elem::{Tag, Uid};
 use dd_grammar::SetFault;
@@ -19,24 +20,40 @@ pub(crate) struct Code {
     pub(crate) tag: [u8; 4],
     /// The UID that it names.
     pub(crate) uid: Option<Uid>,
+    /// The number of the source whose name it says is bad.
+    pub(crate) place: [u8; 4],
 }
 
 impl Code {
-    pub(crate) fn of(fault: &KeyFault) -> Code
+    pub(crate) fn of(fault: &SourceFault) -> Code
         ensures { result ≡ code_of fault.now }
     {
         match fault {
-            KeyFault::File(fault) => file_code(fault),
-            KeyFault::NotImage(uid) => at_uid(32, 0, uid),
-            KeyFault::MissingKey(tag) => at_tag(33, 0, *tag),
-            KeyFault::BadKeyUid(tag) => at_tag(34, 0, *tag),
-            KeyFault::KeyTooLong(tag) => at_tag(35, 0, *tag),
-            KeyFault::KeyIsSequence(tag) => at_tag(36, 0, *tag),
-            KeyFault::MetaMismatch(tag) => at_tag(37, 0, *tag),
-            KeyFault::Read => plain(38, 0, 0),
-            KeyFault::FileTooLong => plain(39, 0, 0),
-            KeyFault::Memory => plain(91, 0, 0),
+            SourceFault::Key(fault) => key_code(fault),
+            SourceFault::Absent => plain(92, 0, 0),
+            SourceFault::Unread => plain(93, 0, 0),
+            SourceFault::BadName(number) => Code {
+                place: number.to_le_bytes(),
+                ..plain(99, 0, 0)
+            },
         }
+    }
+}
+
+fn key_code(fault: &KeyFault) -> Code
+    ensures { result ≡ key_code fault.now }
+{
+    match fault {
+        KeyFault::File(fault) => file_code(fault),
+        KeyFault::NotImage(uid) => at_uid(32, 0, uid),
+        KeyFault::MissingKey(tag) => at_tag(33, 0, *tag),
+        KeyFault::BadKeyUid(tag) => at_tag(34, 0, *tag),
+        KeyFault::KeyTooLong(tag) => at_tag(35, 0, *tag),
+        KeyFault::KeyIsSequence(tag) => at_tag(36, 0, *tag),
+        KeyFault::MetaMismatch(tag) => at_tag(37, 0, *tag),
+        KeyFault::Read => plain(38, 0, 0),
+        KeyFault::FileTooLong => plain(39, 0, 0),
+        KeyFault::Memory => plain(91, 0, 0),
     }
 }
 
@@ -79,6 +96,7 @@ fn plain(number: u8, cause: u8, deeper: u8) -> Code
         numbers: [number, cause, deeper, 0],
         tag: [0; 4],
         uid: None,
+        place: [0; 4],
     }
 }
 

@@ -47,7 +47,7 @@ pub(crate) fn are_cells(elements: &[Element<'_>], cells: &[Cell<'_>]) -> bool
     true
 }
 
-fn is_cell(element: &Element<'_>, cell: &Cell<'_>) -> bool
+pub(crate) fn is_cell(element: &Element<'_>, cell: &Cell<'_>) -> bool
     ensures { IsTrue result ↔ (element_view element.now ≡ cell_element cell.now) }
 {
     let Value::Bytes(bytes) = element.value else {

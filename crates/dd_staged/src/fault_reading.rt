@@ -1,15 +1,17 @@
 //! The fault that an item says.
 
-ghost use Rattle.std.specs.Prelude.{◌≡◌, ◌≢◌, IfOk, IfErr};
+ghost use Rattle.std.specs.Prelude.{◌≡◌, ◌≢◌, ◌<◌, ◌^◌, IfOk, IfErr};
+ghost use Rattle.std.specs.Int.{from_le_bytes, w32};
 ghost use Rattle.dd_grammar.specs.Reading.{tag_of};
 ghost use Rattle.dd_grammar.specs.declared.fault.SetFault.TheVariants as set_faults;
 ghost use Rattle.dd_keys.specs.declared.fault.KeyFault.TheVariants as key_faults;
 ghost use Rattle.dd_set.specs.Views.{set_view};
-ghost use Rattle.dd_staged.specs.Sources.{IsFault, IsTag};
-ghost use Rattle.dd_staged.specs.Values.{fault_in, file_fault_of, key_at, set_fault_of};
+ghost use Rattle.dd_staged.specs.Sources.{IsFault, IsSourceFault, IsTag};
+ghost use Rattle.dd_staged.specs.Values.{fault_in, file_fault_of, key_at, key_fault_in, numbers_in, set_fault_of};
 ghost use Rattle.dd_version.specs.Fitting.{tag};
 
-use crate::tags::{FAULT_NUMBERS, FAULT_TAG, FAULT_UID};
+use crate::source_fault::SourceFault;
+use crate::tags::{FAULT_NUMBERS, FAULT_PLACE, FAULT_TAG, FAULT_UID};
 use crate::values::{ItemFault, four, raw_at, uid_at};
 use dd_elem::Tag;
 use dd_grammar::SetFault;
@@ -17,12 +19,35 @@ use dd_keys::KeyFault;
 use dd_part10::FileFault;
 use dd_set::DataSet;
 
-pub(crate) fn fault_in(set: &DataSet<'_>) -> Result<KeyFault, ItemFault>
+pub(crate) fn fault_in(set: &DataSet<'_>) -> Result<SourceFault, ItemFault>
     ensures value { IfOk result (λ fault. fault ≡ fault_in (set_view set.now)) }
-    ensures valid { IfOk result IsFault }
-    ensures bad { IfErr result (λ fault. (fault ≡ ItemFault.Bad) × ¬ IsFault (fault_in (set_view set.now))) }
+    ensures valid { IfOk result IsSourceFault }
+    ensures bad { IfErr result (λ fault. (fault ≡ ItemFault.Bad)
+        × ¬ IsSourceFault (fault_in (set_view set.now))) }
 {
-    let [number, cause, deeper, _] = four(raw_at(set, FAULT_NUMBERS));
+    let numbers = four(raw_at(set, FAULT_NUMBERS));
+    match numbers[0] {
+        92 => Ok(SourceFault::Absent),
+        93 => Ok(SourceFault::Unread),
+        99 => Ok(SourceFault::BadName(number_of(four(raw_at(set, FAULT_PLACE))))),
+        _ => Ok(SourceFault::Key(key_fault_in(set, numbers)?)),
+    }
+}
+
+fn number_of(bytes: [u8; 4]) -> u32
+    ensures value { result ≡ from_le_bytes w32 bytes }
+    ensures small { result < 2 ^ 32 }
+{
+    u32::from_le_bytes(bytes)
+}
+
+fn key_fault_in(set: &DataSet<'_>, numbers: [u8; 4]) -> Result<KeyFault, ItemFault>
+    requires { numbers ≡ numbers_in (set_view set.now) }
+    ensures value { IfOk result (λ fault. fault ≡ key_fault_in (set_view set.now)) }
+    ensures valid { IfOk result IsFault }
+    ensures bad { IfErr result (λ fault. (fault ≡ ItemFault.Bad) × ¬ IsFault (key_fault_in (set_view set.now))) }
+{
+    let [number, cause, deeper, _] = numbers;
     let tag = tag_in(four(raw_at(set, FAULT_TAG)));
     match number {
         31 => Ok(KeyFault::File(file_fault_in(set, cause, deeper, tag)?)),

@@ -10,8 +10,8 @@ ghost use Rattle.dd_staged.specs.Stages.{fault_elements, version_elements};
 use crate::cell::{Cell, CellValue};
 use crate::code::Code;
 use crate::tags::{
-    CLASS, CREATOR, DIGEST, FAULT_NUMBERS, FAULT_TAG, FAULT_UID, INSTANCE, NAME, PATIENT_CHARSET,
-    PRIVATE_CREATOR, SIZE, TRANSFER,
+    CLASS, CREATOR, DIGEST, FAULT_NUMBERS, FAULT_PLACE, FAULT_TAG, FAULT_UID, INSTANCE, NAME,
+    PATIENT_CHARSET, PRIVATE_CREATOR, SIZE, TRANSFER,
 };
 use dd_elem::{Uid, Vr, tags};
 use dd_version::Parts;
@@ -79,7 +79,7 @@ pub(crate) fn version_cells<'a>(
 }
 
 /// Makes the elements of a source without a version.
-pub(crate) fn fault_cells<'a>(name: &'a [u8], size: &'a [u8; 8], code: &'a Code) -> [Cell<'a>; 6]
+pub(crate) fn fault_cells<'a>(name: &'a [u8], size: &'a [u8; 8], code: &'a Code) -> [Cell<'a>; 7]
     ensures exact { map cell_element result ≡ fault_elements name.now size.now code.now }
     ensures room { AllByRecursion HasRoom result }
 {
@@ -90,6 +90,7 @@ pub(crate) fn fault_cells<'a>(name: &'a [u8], size: &'a [u8; 8], code: &'a Code)
         cell!(FAULT_NUMBERS, OB, CellValue::Bytes(&code.numbers)),
         cell!(FAULT_TAG, AT, CellValue::Bytes(&code.tag)),
         cell!(FAULT_UID, UI, uid_value(&code.uid)),
+        cell!(FAULT_PLACE, UL, CellValue::Bytes(&code.place)),
     ]
 }
 

@@ -11,9 +11,12 @@ ghost use Rattle.dd_grammar.specs.AnswersAs.{AnswersAs};
 ghost use Rattle.dd_set.specs.Views.{element_view, elements_view, items_view, set_view};
 ghost use Rattle.dd_staged.specs.Refusals.{IsBadItem, IsBadStage, is_memory, sources_view, stage_fault_of};
 ghost use Rattle.dd_staged.specs.Sources.{IsSource, Source, source_view};
-ghost use Rattle.dd_staged.specs.Stages.{IsStage, count_of, items_element, source_items, stage_set};
+ghost use Rattle.dd_staged.specs.Stages.{EndsInDigest, IsStage, count_of, items_element, list_elements, set_with};
+ghost use Rattle.dd_staged.specs.Stages.{source_items};
+ghost use Rattle.dd_encoding.specs.Elements.{elements_of};
 
-use crate::comparing::are_cells;
+use crate::comparing::{are_cells, is_cell};
+use crate::digests::{digest_before, digest_cell};
 use crate::item_reading::read_item;
 use crate::stage_fault::StageFault;
 use crate::staged::Staged;
@@ -24,10 +27,12 @@ use dd_elem::Vr;
 use dd_set::{DataSet, Element, Item, Length, SetFault, Syntax, Value, parse};
 use std::alloc::Global;
 
-/// Reads the list of sources that the bytes spell. Refused as BadStage 0 where they spell no list of items, as BadStage
-/// with the number of the first item that spells no source, or as Memory where an allocation was refused.
+/// Reads the list of sources that the bytes spell. Refused as BadStage 0 where they spell no list of items with the
+/// digest of its bytes, as BadStage with the number of the first item that spells no source, or as Memory where an
+/// allocation was refused.
 pub fn read_stage(alloc: Global, bytes: &[u8]) -> Result<Vec<Staged>, StageFault>
     ensures found { IfOk result (λ list. IsStage bytes.now (sources_view list)) }
+    ensures digest { IfOk result (λ _. EndsInDigest bytes.now) }
     ensures only { (sources : List Source) → IsStage bytes.now sources
         → AnswersAs is_memory sources_view result (Ok sources) }
     ensures bad { (n : ℕ) → result ≡ Err (StageFault.BadStage n) → IsBadStage n bytes.now }
@@ -45,7 +50,7 @@ fn read_list(alloc: Global, bytes: &[u8]) -> Result<Vec<Staged>, StageFault>
         return Err(StageFault::BadStage(0));
     }
     let set = set_in(alloc, bytes)?;
-    let Some(items) = items_in(&set.elements) else {
+    let Some(items) = items_in(&set.elements, &digest_before(bytes)) else {
         return Err(StageFault::BadStage(0));
     };
     read_items(alloc, items)
@@ -71,12 +76,30 @@ fn stage_fault_of(fault: SetFault) -> StageFault
     }
 }
 
-/// Gives the items, where the elements are those of a list of them.
-fn items_in<'s, 'a>(elements: &'s [Element<'a>]) -> Option<&'s [Item<'a>]>
+/// Gives the items, where the elements are those of a list of them with this digest.
+fn items_in<'s, 'a>(elements: &'s [Element<'a>], digest: &[u8; 32]) -> Option<&'s [Item<'a>]>
     ensures some { IfSome result (λ items. let parts = items_view items.now
-        in elements_view elements.now ≡ stage_set parts) }
+        in elements_view elements.now ≡ set_with parts digest.now) }
     ensures none { result ≡ None → (parts : Items) → count_of parts < 2 ^ 32
-        → elements_view elements.now ≢ stage_set parts }
+        → elements_view elements.now ≢ set_with parts digest.now }
+{
+    let [listed @ .., last] = elements else {
+        return None;
+    };
+    let items = list_items(listed)?;
+    if is_cell(last, &digest_cell(digest)) {
+        Some(items)
+    } else {
+        None
+    }
+}
+
+/// Gives the items, where the elements are those of a list of them.
+fn list_items<'s, 'a>(elements: &'s [Element<'a>]) -> Option<&'s [Item<'a>]>
+    ensures some { IfSome result (λ items. let parts = items_view items.now
+        in elements_view elements.now ≡ elements_of (list_elements parts)) }
+    ensures none { result ≡ None → (parts : Items) → count_of parts < 2 ^ 32
+        → elements_view elements.now ≢ elements_of (list_elements parts) }
 {
     let [front @ .., last] = elements else {
         return None;

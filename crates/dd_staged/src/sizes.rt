@@ -1,6 +1,6 @@
 //! How long the bytes of a stage are.
 
-ghost use Rattle.std.specs.Prelude.{◌≡◌, ◌<◌, ◌^◌, length, map};
+ghost use Rattle.std.specs.Prelude.{◌≡◌, ◌+◌, ◌<◌, ◌^◌, length, map};
 ghost use Rattle.std.specs.Option.{SomeIff};
 ghost use Rattle.dd_encoding.specs.Elements.{elements_of};
 ghost use Rattle.dd_encoding.specs.Spelling.{elements_text, items_text};
@@ -11,20 +11,27 @@ ghost use Rattle.dd_staged.specs.Stages.{source_elements, source_item, source_it
 
 use crate::cell::Cell;
 use crate::code::Code;
+use crate::digests::DIGEST_SIZE;
 use crate::item_cells::{fault_cells, version_cells};
 use crate::staged::Staged;
 use dd_encoding::HEADER_SIZE;
 
 /// The bytes of a stage before its items, and after them.
-const AROUND: u64 = 52;
+const AROUND: u64 = 52 + DIGEST_SIZE as u64;
 
 /// Counts the bytes that spell the list. None above 4,294,967,295.
 pub fn stage_size(list: &[Staged]) -> Option<u32>
     ensures { let text = stage_text (map source_view list.now)
         in SomeIff result (length text < 2 ^ 32) (length text) }
 {
-    let size = items_size(list)?.checked_add(AROUND)?;
-    u32::try_from(size).ok()
+    let items = items_size(list)?;
+    whole_size(items)
+}
+
+fn whole_size(items: u64) -> Option<u32>
+    ensures { SomeIff result (items + 96 < 2 ^ 32) (items + 96) }
+{
+    u32::try_from(items.checked_add(AROUND)?).ok()
 }
 
 fn items_size(list: &[Staged]) -> Option<u64>

@@ -1,13 +1,13 @@
-use dd_keys::KeyFault;
+use crate::source_fault::SourceFault;
 use dd_version::Version;
 
-/// A source that was read and copied.
+/// A source, as a stage lists it.
 #[derive(Debug, Drop)]
 pub struct Staged {
     /// Its name as it was given, of any bytes.
     pub name: Vec<u8>,
-    /// How many bytes its copy has.
+    /// How many bytes its copy has. 0 where it was not read.
     pub size: u64,
     /// Its version, or why it has none.
-    pub found: Result<Version, KeyFault>,
+    pub found: Result<Version, SourceFault>,
 }

@@ -3,8 +3,8 @@
 
 use dd_elem::Tag;
 
-/// The creator of the block of private elements.
-pub(crate) const PRIVATE_CREATOR: &[u8] = b"DD FILESET 1";
+/// The creator of the block of private elements, with its padding.
+pub(crate) const PRIVATE_CREATOR: &[u8] = b"DD STAGED 2 ";
 
 macro_rules! tag {
     ($group:literal, $element:literal) => {
@@ -39,9 +39,14 @@ pub(crate) const SIZE: Tag = tag!(0x0009, 0x1006);
 /// The Specific Character Set of the keys of the patient.
 pub(crate) const PATIENT_CHARSET: Tag = tag!(0x0009, 0x1007);
 
-/// The numbers of a fault, its tag and its UID.
+/// The numbers of a fault, and the tag, the UID and the number of a name that it names.
 pub(crate) const FAULT_NUMBERS: Tag = tag!(0x0009, 0x1008);
 
 pub(crate) const FAULT_TAG: Tag = tag!(0x0009, 0x1009);
 
 pub(crate) const FAULT_UID: Tag = tag!(0x0009, 0x100a);
+
+pub(crate) const FAULT_PLACE: Tag = tag!(0x0009, 0x100c);
+
+/// The digest of all bytes before it.
+pub(crate) const STAGE_DIGEST: Tag = tag!(0x0009, 0x100b);

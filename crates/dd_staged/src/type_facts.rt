@@ -4,17 +4,18 @@ ghost use Rattle.std.specs.Prelude.{◌≡◌, ◌<◌, ◌^◌, map};
 ghost use Rattle.std.specs.List.{AllByRecursion};
 ghost use Rattle.dd_elem.specs.Uid.{IsUid};
 ghost use Rattle.dd_staged.specs.Sources.{IsSource, IsTag};
-ghost use Rattle.dd_staged.specs.Sources.{Names, NamesInFile, WasRead, source_view};
+ghost use Rattle.dd_staged.specs.Sources.{IsListed, Names, NamesInFile, source_view};
 
+use crate::source_fault::SourceFault;
 use crate::staged::Staged;
 use dd_elem::{Tag, Uid};
 use dd_keys::KeyFault;
 use dd_part10::FileFault;
 use dd_version::version_is_well_formed;
 
-/// States that each is a source, if each was read.
+/// States that each is a source, if it can be listed.
 pub(crate) fn list_is_valid(list: &[Staged])
-    ensures { AllByRecursion WasRead (map source_view list.now)
+    ensures { AllByRecursion IsListed (map source_view list.now)
         → AllByRecursion IsSource (map source_view list.now) }
 {
     for staged in list {
@@ -23,17 +24,23 @@ pub(crate) fn list_is_valid(list: &[Staged])
 }
 
 fn staged_is_valid(staged: &Staged)
-    ensures { WasRead (source_view staged.now) → IsSource (source_view staged.now) }
+    ensures { IsListed (source_view staged.now) → IsSource (source_view staged.now) }
 {
     size_is_valid(staged.size);
     match &staged.found {
         Ok(version) => version_is_well_formed(version),
-        Err(fault) => fault_is_valid(fault),
+        Err(SourceFault::Key(fault)) => fault_is_valid(fault),
+        Err(SourceFault::BadName(number)) => number_is_valid(*number),
+        Err(SourceFault::Absent | SourceFault::Unread) => {}
     }
 }
 
 fn size_is_valid(_size: u64)
     ensures { _size < 2 ^ 64 }
+{}
+
+fn number_is_valid(_number: u32)
+    ensures { _number < 2 ^ 32 }
 {}
 
 fn fault_is_valid(fault: &KeyFault)

@@ -1,5 +1,5 @@
 -- What was made of the answer of an engine.
-use Rattle.std.proofs.Common.{◌≡◌, ◌++◌, ◌+◌, ◌<◌, ℕ, List, [], ◌∷◌, Option, Result, Ok, Err, IfOk, IsOk}
+use Rattle.std.proofs.Common.{◌≡◌, ◌++◌, ◌+◌, ◌<◌, ℕ, List, [], ◌∷◌, Option, Result, Ok, Err, IfOk, IsOk, None}
 use Rattle.std.proofs.Common.{ap, arith, get_or, length, map, refl, subst, sym, take}
 use Rattle.std.proofs.lemmas.List.{take_more}
 use Rattle.dd_engine.specs.declared.choice.Choice.{Choice}
@@ -22,7 +22,8 @@ pub done_merges : {E : Type 0} (r : Result ℕ E) (choice : Choice) (bytes : ℕ
     (GivesLinks : Type 0) (folder : List ℕ) (old new : Option Held) (noted : NotedMerge)
     → AreDirectories folders sets old → NotesSets choice (limits_of bytes) given sets (Ok noted)
     → IfOk r (λ status. status ≡ 0
-    → MakesFileSet (IsMemberPath folders) (λ _ _. GivesLinks) folder noted.merged.plan noted.merged.picks.items old new)
+    → MakesFileSet (IsMemberPath folders) (λ _ _. GivesLinks)
+    (λ _. None) folder noted.merged.plan noted.merged.picks.items old new)
     → DoneMerges r choice bytes given folders GivesLinks folder old new
 done_merges (Ok status) choice bytes given folders sets GivesLinks folder old new noted are h made = λ done. record {
   sets = sets;
@@ -31,8 +32,8 @@ done_merges (Ok status) choice bytes given folders sets GivesLinks folder old ne
   own = h.1;
   merged = noted.merged;
   is = h.2.0;
-  stands = stands_whole (IsMemberPath folders) (λ _ _. GivesLinks) folder noted.merged.plan noted.merged.picks.items
-      old new (made done);
+  stands = stands_whole (IsMemberPath folders) (λ _ _. GivesLinks) (λ _. None) folder noted.merged.plan
+      noted.merged.picks.items old new (made done);
 }
 done_merges (Err refusal) choice bytes given folders sets GivesLinks folder old new noted are h made = tt
 

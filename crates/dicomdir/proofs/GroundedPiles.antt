@@ -1,5 +1,5 @@
 -- The grounds of what refuses a publish or a stage.
-use Rattle.std.proofs.Common.{◌≡◌, ◌∙◌, ℕ, Bool, List, Option, Ok, Err, Result, IfErr, get_or, refl, sym, true}
+use Rattle.std.proofs.Common.{◌≡◌, ◌∙◌, ℕ, Bool, List, Option, Err, get_or, refl, subst, sym, true}
 use Rattle.dd_engine.specs.declared.choice.Choice.{Choice}
 use Rattle.dd_engine.specs.declared.engine_fault.EngineFault.{EngineFault}
 use Rattle.dd_engine.specs.declared.engine_fault.EngineFault.TheVariants as engine
@@ -18,6 +18,7 @@ use Rattle.dd_files.specs.Files.{Held}
 use Rattle.dd_layout.specs.declared.fault.PlanFault.{PlanFault}
 use Rattle.dd_pile.specs.declared.refusal.StageRefusal.{StageRefusal}
 use Rattle.dd_pile.specs.declared.refusal.StageRefusal.TheVariants as stage
+use Rattle.dd_version.specs.declared.parts.Parts.{Parts}
 use Rattle.dicomdir.proofs.MadeGrounds.{strict_grounds, unfit_by}
 use Rattle.dicomdir.proofs.PilesMade.{NotesFound, copy_of, same_size}
 use Rattle.dicomdir.specs.Grounds.{GroundsOfMaking, GroundsOfPiles, GroundsOfStage, HasChangedCopy, HasNoList}
@@ -25,6 +26,7 @@ use Rattle.dicomdir.specs.Grounds.{HasUnfitImage, PilesHaveNoPlan}
 use Rattle.dicomdir.specs.Indexes.{limits_of}
 use Rattle.dicomdir.specs.Noted.{IsNotedIndex}
 use Rattle.dicomdir.specs.Publishes.{HasPiled, IsCopyAt, IsCopyOf, MayLinkAt, MayLinkCopy, answers_in}
+use Rattle.dicomdir.specs.Publishes.{said_at, said_in}
 use Rattle.dicomdir.specs.Stages.{fault_of}
 use Rattle.dicomdir.specs.declared.piles.Piled.{Piled}
 
@@ -46,8 +48,8 @@ module _ (choice : Choice) (bytes : ℕ) (piles : List (List ℕ)) (links : Bool
   -- the copy of a pick has changed
   changed_copy : (piled : Piled) (noted : NotedIndex) → HasPiled piles old piled
       → NotesFound choice bytes piles piled noted
-      → HasUnfitImage (IsCopyAt piles piled.places.items) (MayLinkAt (links ≡ true) piled.places.items) (links ≡ true)
-      noted.indexed.plan noted.indexed.picks.items new
+      → HasUnfitImage (IsCopyAt piles piled.places.items) (MayLinkAt (links ≡ true) piled.places.items)
+      (said_at piled.said.items) (links ≡ true) noted.indexed.plan noted.indexed.picks.items new
       → HasChangedCopy choice bytes piles (links ≡ true) old new
   changed_copy piled noted (lists, are, is) notes changed = record {
     lists = lists;
@@ -55,7 +57,7 @@ module _ (choice : Choice) (bytes : ℕ) (piles : List (List ℕ)) (links : Bool
     indexed = noted.indexed;
     is = (notes (answers_in lists) is.found).0;
     changed = unfit_by (IsCopyAt piles piled.places.items) (IsCopyOf piles lists)
-        (MayLinkAt (links ≡ true) piled.places.items) (MayLinkCopy (links ≡ true) lists) (links ≡ true)
+        (MayLinkAt (links ≡ true) piled.places.items) (MayLinkCopy (links ≡ true) lists) (said_in lists) (links ≡ true)
         noted.indexed.plan noted.indexed.picks.items new
         (λ at d within. record {
           stands = λ path. copy_of piles lists piled (get_or noted.indexed.picks.items at d) path is;
@@ -63,7 +65,9 @@ module _ (choice : Choice) (bytes : ℕ) (piles : List (List ℕ)) (links : Bool
             may.0,
             may.1 ∙ sym (same_size lists piled is (get_or noted.indexed.picks.items at d)),
           );
-        }) changed;
+        }) (subst (λ (said : List (Option Parts)). HasUnfitImage (IsCopyAt piles piled.places.items)
+        (MayLinkAt (links ≡ true) piled.places.items) (said_at said) (links ≡ true) noted.indexed.plan
+        noted.indexed.picks.items new) is.said changed);
   }
 
   -- there is a note
@@ -80,10 +84,11 @@ module _ (choice : Choice) (bytes : ℕ) (piles : List (List ℕ)) (links : Bool
       })
 
   -- a fault of making the file-set
-  piles_made : (piled : Piled) (noted : NotedIndex) → HasPiled piles old piled
+  pub piles_made : (piled : Piled) (noted : NotedIndex) → HasPiled piles old piled
       → NotesFound choice bytes piles piled noted → (subject : Subject) (fault : ProgramFault)
       → GroundsOfMaking (HasUnfitImage (IsCopyAt piles piled.places.items)
-      (MayLinkAt (links ≡ true) piled.places.items) (links ≡ true) noted.indexed.plan noted.indexed.picks.items new) ⊥ fault
+      (MayLinkAt (links ≡ true) piled.places.items) (said_at piled.said.items)
+      (links ≡ true) noted.indexed.plan noted.indexed.picks.items new) ⊥ fault
       → GroundsOfPiles choice bytes piles links old new subject fault
   piles_made piled noted has notes subject Absent made = tt
   piles_made piled noted has notes subject Unread made = tt
@@ -102,16 +107,6 @@ module _ (choice : Choice) (bytes : ℕ) (piles : List (List ℕ)) (links : Bool
   piles_made piled noted has notes subject (BadStage item) made = absurd made
   piles_made piled noted has notes subject (Dir fault) made = absurd made
   piles_made piled noted has notes subject (Own fault) made = absurd made
-
-  pub publish_grounds : {T : Type 0} (result : Result T Refusal) (piled : Piled) (noted : NotedIndex)
-      → HasPiled piles old piled → NotesFound choice bytes piles piled noted
-      → IfErr result (λ refusal. GroundsOfMaking (HasUnfitImage (IsCopyAt piles piled.places.items)
-      (MayLinkAt (links ≡ true) piled.places.items) (links ≡ true) noted.indexed.plan noted.indexed.picks.items new) ⊥
-      refusal.fault)
-      → IfErr result (λ refusal. GroundsOfPiles choice bytes piles links old new refusal.subject refusal.fault)
-  publish_grounds (Ok done) piled noted has notes made = tt
-  publish_grounds (Err refusal) piled noted has notes made =
-      piles_made piled noted has notes refusal.subject refusal.fault made
 
 -- ---- `stage`
 

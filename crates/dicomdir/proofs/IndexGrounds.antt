@@ -1,5 +1,5 @@
 -- The grounds of a fault of `index`.
-use Rattle.std.proofs.Common.{◌≡◌, ℕ, Bool, List, [], Option, refl}
+use Rattle.std.proofs.Common.{◌≡◌, ℕ, Bool, List, [], Option, refl, None}
 use Rattle.dd_catalogue.specs.Harmony.{harmonised}
 use Rattle.dd_engine.specs.Choosing.{label_for}
 use Rattle.dd_engine.specs.Indexing.{accepted, best_of_sources}
@@ -41,7 +41,7 @@ module _ (keeps_going : Bool) (choice : Choice) (bytes : ℕ) (names : List (Lis
   -- the file of a pick has changed
   changed_source : (paths : List (List ℕ)) (numbers : List ℕ) (noted : NotedIndex) → HavePaths names paths numbers
       → Indexes keeps_going choice bytes names old noted
-      → HasUnfitImage (IsPathAt paths) (λ _ _. ⊥) ⊥ noted.indexed.plan noted.indexed.picks.items new
+      → HasUnfitImage (IsPathAt paths) (λ _ _. ⊥) (λ _. None) ⊥ noted.indexed.plan noted.indexed.picks.items new
       → HasChangedSource keeps_going choice bytes names old new
   changed_source paths numbers noted have h changed =
       let best = best_of_sources (accepted (answers_of h.readings)) in
@@ -51,7 +51,7 @@ module _ (keeps_going : Bool) (choice : Choice) (bytes : ℕ) (names : List (Lis
         all = h.all;
         indexed = noted.indexed;
         is = h.notes.0;
-        changed = unfit_by (IsPathAt paths) (IsPathAt names) (λ _ _. ⊥) (λ _ _. ⊥) ⊥ noted.indexed.plan
+        changed = unfit_by (IsPathAt paths) (IsPathAt names) (λ _ _. ⊥) (λ _ _. ⊥) (λ _. None) ⊥ noted.indexed.plan
             noted.indexed.picks.items new
             (picks_named names paths numbers old h.readings have h.read (harmonised best)
             (records_of (label_for choice best []) (harmonised best)) noted.indexed.picks.items h.notes.0.picks)
@@ -74,7 +74,7 @@ module _ (keeps_going : Bool) (choice : Choice) (bytes : ℕ) (names : List (Lis
   pub index_made : (paths : List (List ℕ)) (numbers : List ℕ) (noted : NotedIndex) → HavePaths names paths numbers
       → Indexes keeps_going choice bytes names old noted → (fault : ProgramFault)
       → GroundsOfMaking
-      (HasUnfitImage (IsPathAt paths) (λ _ _. ⊥) ⊥ noted.indexed.plan noted.indexed.picks.items new) ⊥ fault
+      (HasUnfitImage (IsPathAt paths) (λ _ _. ⊥) (λ _. None) ⊥ noted.indexed.plan noted.indexed.picks.items new) ⊥ fault
       → Grounds fault
   index_made paths numbers noted have h Absent made = tt
   index_made paths numbers noted have h Unread made = tt

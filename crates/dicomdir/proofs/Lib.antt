@@ -39,3 +39,4 @@ mod SaidLines
 mod SetsGrounds
 pub mod ShortFiles
 mod StagedSources
+mod UnreadPiles

@@ -1,20 +1,22 @@
 -- What a request makes is what the words of its line say.
 use Rattle.std.proofs.Common.{◌≡◌, ◌≢◌, ◌≤◌, ◌∙◌, ℕ, List, Option, None, Some, Result, Ok, Err, IfOk, arith, inl, inr}
-use Rattle.std.proofs.Common.{[], ◌∷◌, Bool, String, ap, ap₂, false, get_or, refl, string_bytes, subst, true}
-use Rattle.std.specs.Prelude.{option_map, unwrap_or}
+use Rattle.std.proofs.Common.{[], ◌∷◌, Bool, String, ap, ap₂, false, get_or, refl, string_bytes, subst, sym, true}
+use Rattle.std.specs.Prelude.{◌⊎◌, option_map, unwrap_or}
 use Rattle.std.specs.declared.alloc.Global.{Global}
 use Rattle.clap.specs.Takes.{is_given}
 use Rattle.clap.specs.Words.{Row, Text, first_of}
 use Rattle.dd_elem.specs.declared.device.Write.{Ghosts as WriteOf}
 use Rattle.dd_engine.specs.declared.choice.Choice.{Choice}
 use Rattle.dd_files.specs.Files.{Held}
-use Rattle.dd_line.specs.Line.{files0_from_name, from_name, json_name, verb_name, words_of}
-use Rattle.dd_line.specs.Requests.{IsRequested, id_of, instances_of, uid_of}
+use Rattle.dd_line.specs.Line.{files0_from_name, from_name, json_name, keep_going_name, verb_name, words_of}
+use Rattle.dd_line.specs.Requests.{IsRequested, id_of, instances_of, uid_of, verb_of}
 use Rattle.dd_line.specs.declared.line.Verb.TheVariants as verbs
+use Rattle.dd_line.specs.declared.request.PublishRequest.{PublishRequest}
 use Rattle.dd_line.specs.declared.request.Request.{Request}
 use Rattle.dd_line.specs.declared.request.Request.TheVariants.{Check, Index, List as ListSet, Merge, Publish, Stage, Withdraw}
+use Rattle.dd_line.specs.declared.request.StageRequest.{StageRequest}
 use Rattle.dicomdir.specs.From.{from_text, looked_up, looked_up_list}
-use Rattle.dicomdir.specs.Indexes.{DoneIndexes, MakesIndex}
+use Rattle.dicomdir.specs.Indexes.{DoneIndexes, IsIndexStatus, MakesIndex}
 use Rattle.dicomdir.specs.ListedNames.{AreSources}
 use Rattle.dicomdir.specs.Inspecting.{style_by}
 use Rattle.dicomdir.specs.Lines.{IndexesLine, IsIndex, IsMerge, IsPublish, IsStage, IsWithdraw, MergesLine}
@@ -24,7 +26,7 @@ use Rattle.dicomdir.specs.Merges.{DoneMerges, MakesMerge}
 use Rattle.dicomdir.specs.Names.{choice_by}
 use Rattle.dicomdir.specs.Publishes.{DonePublishes, MakesPublish}
 use Rattle.dicomdir.specs.Stages.{Stages}
-use Rattle.dicomdir.specs.Words.{MakesRequested, StagesRequested}
+use Rattle.dicomdir.specs.Words.{IsStatusOf, MakesRequested, StagesRequested}
 
 -- ---- a command that is done
 
@@ -51,12 +53,38 @@ merge_done (Ok status) choice bytes given folders GivesLinks folder old new few 
 merge_done (Err refusal) choice bytes given folders GivesLinks folder old new few made = tt
 
 pub publish_done : {E : Type 0} (r : Result ℕ E) (choice : Choice) (bytes : ℕ) (piles : List (List ℕ))
-    (GivesLinks : Type 0) (folder : List ℕ) (old new : Option Held) → IfOk r (λ status. status ≤ 1)
+    (GivesLinks : Type 0) (folder : List ℕ) (old new : Option Held)
     → DonePublishes r choice bytes piles GivesLinks folder old new
-    → IfOk r (λ status. IsDone status → MakesPublish choice bytes piles GivesLinks folder old new)
-publish_done (Ok status) choice bytes piles GivesLinks folder old new few made =
-    λ done. made (zero_of_two status few done)
-publish_done (Err refusal) choice bytes piles GivesLinks folder old new few made = tt
+    → IfOk r (λ status. IsDone status → MakesPublish choice bytes piles GivesLinks folder status old new)
+publish_done (Ok status) choice bytes piles GivesLinks folder old new made = λ done. made (unlike_one status done)
+publish_done (Err refusal) choice bytes piles GivesLinks folder old new made = tt
+
+-- `publish` may end with these
+pub publish_status : {E : Type 0} (r : Result ℕ E) (x : PublishRequest)
+    → IfOk r (λ status. (status ≤ 1) ⊎ (status ≡ 3)) → IfOk r (λ status. IsStatusOf (Publish x) status)
+publish_status (Ok status) x ends = elim ends [
+  | inl few ↦ inl few
+  | inr three ↦ inr (three, inr (inr refl))
+]
+publish_status (Err refusal) x ends = tt
+
+either : {A : Type 0} (is : Bool) → (is ≡ false → A) → A ⊎ (is ≡ true)
+either true otherwise = inr refl
+either false otherwise = inl (otherwise refl)
+
+-- so may `stage`, where names that are not UTF-8 are there only if it keeps going
+stage_ends : {E : Type 0} (r : Result ℕ E) (x : StageRequest) → IfOk r (IsIndexStatus x.keep_going)
+    → IfOk r (λ status. IsStatusOf (Stage x) status)
+stage_ends (Ok status) x ends = elim ends [
+  | inl few ↦ inl few
+  | inr past ↦ inr (past.0, inr (inl past.1))
+]
+stage_ends (Err refusal) x ends = tt
+
+pub stage_status : {E : Type 0} (r : Result ℕ E) (x : StageRequest) (bad : List ℕ) → (x.keep_going ≡ false → bad ≡ [])
+    → ((bad ≡ []) ⊎ (x.keep_going ≡ true) → IfOk r (IsIndexStatus x.keep_going))
+    → IfOk r (λ status. IsStatusOf (Stage x) status)
+stage_status r x bad none ends = stage_ends r x (ends (either x.keep_going none))
 
 -- ---- by the words of its line
 
@@ -192,15 +220,21 @@ sources_as keeps_going list other words others files all same_list same_words ar
 
 -- ---- piles
 
+-- a request is of `publish` where the words name it
+pub requested_publish : (r : Request) (found : Option (Text × List Row)) → IsRequested r found
+    → verb_of r ≡ verbs.Publish → IsPublish found
+requested_publish r None h is = absurd h
+requested_publish r (Some (command, given)) h is = sym h.verb ∙ ap verb_name is
+
 pub given_publish : (r : Request) (found : Option (Text × List Row)) (status : ℕ) (old new : Option Held)
-    → IsRequested r found → IsPublish found → MakesAsked r status old new → PublishesLine found old new
+    → IsRequested r found → IsPublish found → MakesAsked r status old new → PublishesLine found status old new
 given_publish r None status old new h names made = absurd h
 given_publish (Publish x) (Some (command, given)) status old new h names made =
     let new_set = h.values.new_set in
     let from = from_is x.from (first_of from_name given) h.values.from in
     let out = string_bytes x.new_set.out in
     let makes : MakesPublish (choice_by (option_map string_bytes x.new_set.id) (option_map string_bytes x.new_set.uid))
-    x.new_set.max_bytes made.sources (x.link ≡ true) (looked_up (from_text x.from) out) old new = made.made in
+    x.new_set.max_bytes made.sources (x.link ≡ true) (looked_up (from_text x.from) out) status old new = made.made in
     record {
       folder = out;
       bytes = x.new_set.max_bytes;
@@ -223,38 +257,44 @@ given_publish (Check x) (Some (command, given)) status old new h names made =
 given_publish (ListSet x) (Some (command, given)) status old new h names made =
     unlike (verb_name verbs.List) (verb_name verbs.Publish) (h.verb ∙ names) (λ (e : 108 ≡ 112). omega (arith, e))
 
-staged_as : {W : Type 0} (writer : WriteOf W) (pile : Text) (names : List Text) (files made : Option Held)
-    (old new : W) (json other_json : Bool) (from other : Text) → json ≡ other_json → from ≡ other
-    → Stages writer (style_by json) from pile names files made old new
-    → Stages writer (style_by other_json) other pile names files made old new
-staged_as writer pile names files made old new json other_json from other same_json same staged =
-    subst (λ (is : Bool). Stages writer (style_by is) other pile names files made old new) same_json
-    (subst (λ (folder : Text). Stages writer (style_by json) folder pile names files made old new) same staged)
+staged_as : {W : Type 0} (writer : WriteOf W) (pile : Text) (names : List Text) (status : ℕ) (files made : Option Held)
+    (old new : W) (json other_json keeps other_keeps : Bool) (from other : Text) → json ≡ other_json
+    → keeps ≡ other_keeps → from ≡ other
+    → Stages writer (style_by json) keeps from pile names status files made old new
+    → Stages writer (style_by other_json) other_keeps other pile names status files made old new
+staged_as writer pile names status files made old new json other_json keeps other_keeps from other same_json same_keeps
+    same staged =
+    subst (λ (is : Bool). Stages writer (style_by is) other_keeps other pile names status files made old new) same_json
+    (subst (λ (goes : Bool). Stages writer (style_by json) goes other pile names status files made old new) same_keeps
+    (subst (λ (folder : Text). Stages writer (style_by json) keeps folder pile names status files made old new) same
+    staged))
 
-pub given_stage : {W : Type 0} (writer : WriteOf W) (r : Request) (found : Option (Text × List Row))
+pub given_stage : {W : Type 0} (writer : WriteOf W) (r : Request) (found : Option (Text × List Row)) (status : ℕ)
     (files made : Option Held) (old new : W) → IsRequested r found → IsStage found
-    → StagesRequested writer r files made old new → StagesLine writer found files made old new
-given_stage writer r None files made old new h names staged = absurd h
-given_stage writer (Stage x) (Some (command, given)) files made old new h names staged =
+    → StagesRequested writer r status files made old new → StagesLine writer found status files made old new
+given_stage writer r None status files made old new h names staged = absurd h
+given_stage writer (Stage x) (Some (command, given)) status files made old new h names staged =
     let from = from_is x.from (first_of from_name given) h.values.from in
     record {
       pile = string_bytes x.pile;
       place = h.values.pile;
       names = staged.names;
-      are = sources_as false _ _ _ _ files staged.names (list_is x.from x.sources.files0_from given h.values.from
-          h.values.sources.files0_from) h.values.sources.words staged.are;
-      staged = staged_as writer (string_bytes x.pile) staged.names files made old new x.json (is_given json_name given)
-          _ _ h.values.json from staged.staged;
+      are = rw h.values.keep_going at
+          (sources_as x.keep_going _ _ _ _ files staged.names (list_is x.from x.sources.files0_from given h.values.from
+          h.values.sources.files0_from) h.values.sources.words staged.are);
+      staged = staged_as writer (string_bytes x.pile) staged.names status files made old new x.json
+          (is_given json_name given) x.keep_going (is_given keep_going_name given) _ _ h.values.json h.values.keep_going
+          from staged.staged;
     }
-given_stage writer (Index x) (Some (command, given)) files made old new h names staged =
+given_stage writer (Index x) (Some (command, given)) status files made old new h names staged =
     unlike (verb_name verbs.Index) (verb_name verbs.Stage) (h.verb ∙ names) (λ (e : 105 ≡ 115). omega (arith, e))
-given_stage writer (Merge x) (Some (command, given)) files made old new h names staged =
+given_stage writer (Merge x) (Some (command, given)) status files made old new h names staged =
     unlike (verb_name verbs.Merge) (verb_name verbs.Stage) (h.verb ∙ names) (λ (e : 109 ≡ 115). omega (arith, e))
-given_stage writer (Withdraw x) (Some (command, given)) files made old new h names staged =
+given_stage writer (Withdraw x) (Some (command, given)) status files made old new h names staged =
     unlike (verb_name verbs.Withdraw) (verb_name verbs.Stage) (h.verb ∙ names) (λ (e : 119 ≡ 115). omega (arith, e))
-given_stage writer (Publish x) (Some (command, given)) files made old new h names staged =
+given_stage writer (Publish x) (Some (command, given)) status files made old new h names staged =
     unlike (verb_name verbs.Publish) (verb_name verbs.Stage) (h.verb ∙ names) (λ (e : 112 ≡ 115). omega (arith, e))
-given_stage writer (Check x) (Some (command, given)) files made old new h names staged =
+given_stage writer (Check x) (Some (command, given)) status files made old new h names staged =
     unlike (verb_name verbs.Check) (verb_name verbs.Stage) (h.verb ∙ names) (λ (e : 99 ≡ 115). omega (arith, e))
-given_stage writer (ListSet x) (Some (command, given)) files made old new h names staged =
+given_stage writer (ListSet x) (Some (command, given)) status files made old new h names staged =
     unlike (verb_name verbs.List) (verb_name verbs.Stage) (h.verb ∙ names) (λ (e : 108 ≡ 115). omega (arith, e))

@@ -54,12 +54,13 @@ merge_said writer (Err refusal) style is_dry is_strict choice bytes given folder
 
 pub publish_said : {E W : Type 0} (writer : WriteOf W) (r : Result ℕ E) (style : Style) (is_dry is_strict : Bool)
     (choice : Choice) (bytes : ℕ) (piles : List (List ℕ)) (files : Option Held) (old new : W)
-    → IfOk r (λ status. status ≤ 1)
-    → IfOk r (λ status. status ≡ 0 → PrintsPublish writer style is_dry is_strict choice bytes piles files old new)
-    → IfOk r (λ status. IsDone status → PrintsPublish writer style is_dry is_strict choice bytes piles files old new)
-publish_said writer (Ok status) style is_dry is_strict choice bytes piles files old new few said =
-    λ done. said (zero_of_two status few done)
-publish_said writer (Err refusal) style is_dry is_strict choice bytes piles files old new few said = tt
+    → IfOk r (λ status. status ≢ 1
+    → PrintsPublish writer style is_dry is_strict choice bytes piles status files old new)
+    → IfOk r (λ status. IsDone status
+    → PrintsPublish writer style is_dry is_strict choice bytes piles status files old new)
+publish_said writer (Ok status) style is_dry is_strict choice bytes piles files old new said =
+    λ done. said (unlike_one status done)
+publish_said writer (Err refusal) style is_dry is_strict choice bytes piles files old new said = tt
 
 -- ---- the same flags and label
 
@@ -98,18 +99,24 @@ module _ {W : Type 0} (writer : WriteOf W) (bytes : ℕ) (files : Option Held) (
       (subst (λ (label : Choice). PrintsMerge writer (style_by json) dry strict label bytes given folders files old new)
       same said)))
 
-  publish_as : (piles : List Text) (json dry strict other_json other_dry other_strict : Bool)
+  publish_as : (piles : List Text) (status : ℕ) (json dry strict other_json other_dry other_strict : Bool)
       (choice other : Choice) → json ≡ other_json → dry ≡ other_dry → strict ≡ other_strict → choice ≡ other
-      → PrintsPublish writer (style_by json) dry strict choice bytes piles files old new
-      → PrintsPublish writer (style_by other_json) other_dry other_strict other bytes piles files old new
-  publish_as piles json dry strict other_json other_dry other_strict choice other same_json same_dry same_strict same
+      → PrintsPublish writer (style_by json) dry strict choice bytes piles status files old new
+      → PrintsPublish writer (style_by other_json) other_dry other_strict other bytes piles status files old new
+  publish_as piles status json dry strict other_json other_dry other_strict choice other same_json same_dry
+      same_strict same
       said =
-      subst (λ (is : Bool). PrintsPublish writer (style_by is) other_dry other_strict other bytes piles files old new)
+      subst (λ (is : Bool). PrintsPublish writer (style_by is) other_dry other_strict other bytes piles status files
+      old new)
       same_json
-      (subst (λ (is : Bool). PrintsPublish writer (style_by json) is other_strict other bytes piles files old new)
+      (subst (λ (is : Bool). PrintsPublish writer (style_by json) is other_strict other bytes piles status files old
+      new)
       same_dry
-      (subst (λ (is : Bool). PrintsPublish writer (style_by json) dry is other bytes piles files old new) same_strict
-      (subst (λ (label : Choice). PrintsPublish writer (style_by json) dry strict label bytes piles files old new) same
+      (subst (λ (is : Bool). PrintsPublish writer (style_by json) dry is other bytes piles status files old new)
+      same_strict
+      (subst (λ (label : Choice). PrintsPublish writer (style_by json) dry strict label bytes piles status files old
+      new)
+      same
       said)))
 
 -- ---- by the words of its line
@@ -234,7 +241,7 @@ withdraw_says writer (ListSet x) (Some (command, given)) status files old new h 
 
 says_of_piles : {W : Type 0} (writer : WriteOf W) (x : PublishRequest) (command : Text) (given : List Row) (status : ℕ)
     (files : Option Held) (old new : W) → Requests (Publish x) command given
-    → SaysAsked writer (Publish x) status files old new → SaysOfPiles writer given files old new
+    → SaysAsked writer (Publish x) status files old new → SaysOfPiles writer given status files old new
 says_of_piles writer x command given status files old new h said =
     let new_set = h.values.new_set in
     record {
@@ -243,7 +250,7 @@ says_of_piles writer x command given status files old new h said =
       piles = said.sources;
       are = sources_as false _ _ _ _ files said.sources (list_is x.from x.piles.files0_from given h.values.from
           h.values.piles.files0_from) h.values.piles.words said.are;
-      says = publish_as writer x.new_set.max_bytes files old new said.sources x.new_set.json x.new_set.dry_run
+      says = publish_as writer x.new_set.max_bytes files old new said.sources status x.new_set.json x.new_set.dry_run
           x.new_set.strict (is_given json_name given) (is_given dry_run_name given) (is_given strict_name given) _
           (choice_of given) new_set.json new_set.dry_run new_set.strict (ap₂ choice_by new_set.id new_set.uid)
           said.says;
@@ -251,7 +258,7 @@ says_of_piles writer x command given status files old new h said =
 
 pub publish_says : {W : Type 0} (writer : WriteOf W) (r : Request) (found : Option (Text × List Row)) (status : ℕ)
     (files : Option Held) (old new : W) → IsRequested r found → IsPublish found
-    → SaysAsked writer r status files old new → PublishSays writer found files old new
+    → SaysAsked writer r status files old new → PublishSays writer found status files old new
 publish_says writer r None status files old new h names said = absurd h
 publish_says writer (Publish x) (Some (command, given)) status files old new h names said =
     says_of_piles writer x command given status files old new h said

@@ -85,18 +85,21 @@ picked_in {X = X} {P = P} Q (x ∷ xs) (pick ∷ picks) row all (zero, within, i
 picked_in Q (x ∷ xs) (pick ∷ picks) row all (suc at, within, is) =
     picked_in Q xs picks row (All-tail Q pick picks all) (at, omega (arith, within), is)
 
-module _ (From To MayLink MayLinkTo : List ℕ → Type 0) (GivesLinks : Type 0) (planned : Parts)
+module _ (From To MayLink MayLinkTo : List ℕ → Type 0) (said : Option Parts) (GivesLinks : Type 0) (planned : Parts)
     (same : SaysToo From To MayLinkTo MayLink) where
-  unfit_bytes : (bytes : List ℕ) → IsUnfit planned GivesLinks MayLink bytes → IsUnfit planned GivesLinks MayLinkTo bytes
+  unfit_bytes : (bytes : List ℕ) → IsUnfit planned said GivesLinks MayLink bytes
+      → IsUnfit planned said GivesLinks MayLinkTo bytes
   unfit_bytes bytes (inl long) = inl long
   unfit_bytes bytes (inr (inl other)) = inr (inl other)
   unfit_bytes bytes (inr (inr unlinked)) = inr (inr (unlinked.0, λ may. unlinked.1 (same.links bytes may)))
 
-pub unfit_by : {P : Type 0} (From To MayLink MayLinkTo : P → List ℕ → Type 0) (GivesLinks : Type 0) (plan : Layout)
+pub unfit_by : {P : Type 0} (From To MayLink MayLinkTo : P → List ℕ → Type 0) (said : P → Option Parts)
+    (GivesLinks : Type 0) (plan : Layout)
     (picks : List P) (files : Option Held)
     → All (λ pick. SaysToo (From pick) (To pick) (MayLinkTo pick) (MayLink pick)) picks
-    → HasUnfitImage From MayLink GivesLinks plan picks files → HasUnfitImage To MayLinkTo GivesLinks plan picks files
-unfit_by From To MayLink MayLinkTo GivesLinks plan picks files all is =
+    → HasUnfitImage From MayLink said GivesLinks plan picks files
+    → HasUnfitImage To MayLinkTo said GivesLinks plan picks files
+unfit_by From To MayLink MayLinkTo said GivesLinks plan picks files all is =
     let pick = is.row.1 in
     let same = picked_in (λ one. SaysToo (From one) (To one) (MayLinkTo one) (MayLink one)) _ picks is.row all is.among in
     let planned = is.has.planned in
@@ -109,9 +112,10 @@ unfit_by From To MayLink MayLinkTo GivesLinks plan picks files all is =
         has = record {
           from = is.has.has.from;
           picked = same.stands is.has.has.from is.has.has.picked;
-          unfit = bytes_by (IsUnfit planned GivesLinks (MayLink pick)) (IsUnfit planned GivesLinks (MayLinkTo pick))
+          unfit = bytes_by (IsUnfit planned (said pick) GivesLinks (MayLink pick))
+              (IsUnfit planned (said pick) GivesLinks (MayLinkTo pick))
               is.has.has.from files
-              (unfit_bytes (From pick) (To pick) (MayLink pick) (MayLinkTo pick) GivesLinks planned same)
+              (unfit_bytes (From pick) (To pick) (MayLink pick) (MayLinkTo pick) (said pick) GivesLinks planned same)
               is.has.has.unfit;
         };
       };

@@ -1,5 +1,5 @@
 -- Whether a source failed, and the status by that.
-use Rattle.std.proofs.Common.{◌≡◌, ◌≢◌, ◌∙◌, ◌≤◌, ℕ, zero, suc, List, [], ◌∷◌, Bool, true, false, Option, Ok, Err}
+use Rattle.std.proofs.Common.{◌≡◌, ◌≢◌, ◌∙◌, ◌≤◌, ℕ, zero, suc, List, [], ◌∷◌, Bool, true, false, Option, Ok, Err, None}
 use Rattle.std.proofs.Common.{get_or}
 use Rattle.std.proofs.Common.{ap, arith, inl, inr, length, refl, subst}
 use Rattle.std.specs.Prelude.{◌⊎◌, ◌↔◌, IfErr, IfSome, if◌then◌else◌, slice_get}
@@ -46,7 +46,7 @@ settled old name (Ok (Ok version)) h = tt
 settled old name (Ok (Err fault)) h = h.settled.0
 settled old name (Err fault) h = tt
 
-read_fault : (fault : KeyFault) → fault ≢ keys.Read → is_unread fault ≡ false
+pub read_fault : (fault : KeyFault) → fault ≢ keys.Read → is_unread fault ≡ false
 read_fault keys.Read other = absurd (other refl)
 read_fault (keys.File fault) other = refl
 read_fault (keys.NotImage class) other = refl
@@ -122,7 +122,7 @@ module _ (choice : Choice) (bytes : ℕ) (sources : List (List ℕ)) (old : Opti
   pub done_index : (keeps_going : Bool) (made : ℕ) (paths : List (List ℕ)) (bad : List ℕ) (folder : List ℕ)
       (new : Option Held) → made ≤ 1 → HavePaths sources paths bad
       → Indexes keeps_going choice bytes sources old noted
-      → MakesFileSet (IsPathAt paths) (λ _ _. ⊥) folder indexed.plan indexed.picks.items old new
+      → MakesFileSet (IsPathAt paths) (λ _ _. ⊥) (λ _. None) folder indexed.plan indexed.picks.items old new
       → status_past made indexed.skipped.items ≢ 1
       → MakesIndex choice bytes sources folder (status_past made indexed.skipped.items) old new
   done_index keeps_going (suc made) paths bad folder new least have h set done = absurd (done (omega (arith, least)))
@@ -136,9 +136,9 @@ module _ (choice : Choice) (bytes : ℕ) (sources : List (List ℕ)) (old : Opti
         let best = best_of_sources (accepted (answers_of h.readings)) in
         let named = picks_named sources paths bad old h.readings have h.read (harmonised best)
         (records_of (label_for choice best []) (harmonised best)) indexed.picks.items h.notes.0.picks in
-        stands_whole (IsPathAt sources) (λ _ _. ⊥) folder indexed.plan indexed.picks.items old new
-        (set_by (IsPathAt paths) (IsPathAt sources) (λ _ _. ⊥) (λ _ _. ⊥) folder indexed.plan indexed.picks.items old
-        new named set);
+        stands_whole (IsPathAt sources) (λ _ _. ⊥) (λ _. None) folder indexed.plan indexed.picks.items old new
+        (set_by (IsPathAt paths) (IsPathAt sources) (λ _ _. ⊥) (λ _ _. ⊥) (λ _. None) folder indexed.plan
+        indexed.picks.items old new named set);
   }
 
 -- the answers are as many as the sources

@@ -1,5 +1,5 @@
 -- What was made of piles, and what was printed.
-use Rattle.std.proofs.Common.{◌≡◌, ◌∙◌, ◌+◌, ◌<◌, ℕ, List, [], ◌∷◌, Bool, Option, Result, Ok, Err, IfOk, IsOk, ap, ap₂, arith}
+use Rattle.std.proofs.Common.{◌≡◌, ◌≢◌, ◌∙◌, ◌+◌, ◌<◌, ◌≤◌, ℕ, zero, suc, List, [], ◌∷◌, Bool, Option, Ok, ap, ap₂, arith}
 use Rattle.std.proofs.Common.{get_or, length, refl, string_bytes, subst, sym, true}
 use Rattle.std.proofs.lemmas.List.{get_or_default, length-map}
 use Rattle.std.proofs.lemmas.List.Elements.{All-weaker}
@@ -19,18 +19,22 @@ use Rattle.dd_line.specs.Line.{words_of}
 use Rattle.dd_lines.specs.Text.{TakesText}
 use Rattle.dd_pile.specs.Paths.{IsCopyPath}
 use Rattle.dd_staged.specs.Sources.{Source}
+use Rattle.dd_version.specs.declared.parts.Parts.{Parts}
 use Rattle.dd_file_set.proofs.AllStanding.{stands_whole}
 use Rattle.dicomdir.proofs.InPiles.{in_some_pile, pile_within}
 use Rattle.dicomdir.proofs.Piling.{lists_count}
 use Rattle.dicomdir.proofs.SaidLines.{takes_both}
 use Rattle.dd_file_set.proofs.Unlinked.{set_each}
-use Rattle.dicomdir.specs.Indexes.{limits_of}
+use Rattle.dicomdir.proofs.UnreadPiles.{zero_where_read}
+use Rattle.dicomdir.specs.Indexes.{limits_of, status_past}
 use Rattle.dd_file_set.specs.Made.{MakesFileSet}
 use Rattle.dicomdir.specs.Noted.{IsNotedIndex}
-use Rattle.dicomdir.specs.Publishes.{DonePublishes, HasPiled, IsCopyAt, IsCopyOf, IsPiled, MayLinkAt, MayLinkCopy, PrintsPublish}
-use Rattle.dicomdir.specs.Publishes.{answers_in, image_bytes, last_line, pile_at, placed_bytes, size_at, sizes_in}
+use Rattle.dicomdir.specs.Publishes.{HasPiled, IsCopyAt, IsCopyOf, IsPiled, MakesPublish, MayLinkAt, MayLinkCopy, PrintsPublish}
+use Rattle.dicomdir.specs.Publishes.{answers_in, image_bytes, last_line, pile_at, placed_bytes, said_at, said_in}
+use Rattle.dicomdir.specs.Publishes.{size_at, sizes_in}
 use Rattle.dicomdir.specs.Publishes.{sources_in}
 use Rattle.dicomdir.specs.Said.{SaysNotes}
+use Rattle.dicomdir.specs.Unread.{answer_of}
 use Rattle.dicomdir.specs.declared.piles.Piled.{Piled}
 use Rattle.dicomdir.specs.declared.piles.Place.{Place}
 
@@ -42,7 +46,7 @@ pub of_names : (piles : List (List ℕ)) (files : Option Held) (piled : Piled) (
     → Is (length piled.names.items)
 of_names piles files piled Is (lists, are, is) h =
     let sources = sources_in lists in
-    subst Is (length-map sources (λ (source : Source). source.found)
+    subst Is (length-map sources (λ (source : Source). answer_of source.found)
     ∙ sym (length-map sources (λ (source : Source). source.name)) ∙ sym is.shown.count
     ∙ length-map piled.names.items (λ name. string_bytes name))
     (h (answers_in lists) is.found)
@@ -74,7 +78,13 @@ pub have_places : (piles : List (List ℕ)) (files : Option Held) (piled : Piled
 have_places piles files piled picks (lists, are, is) within =
     All-weaker (λ at. at < length (answers_in lists)) (λ at. at < length piled.places.items)
     (λ at among.
-    omega (arith, among, is.places.count, length-map (sources_in lists) (λ (source : Source). source.found))) picks
+    omega (
+      arith,
+      among,
+      is.places.count,
+      length-map (sources_in lists)
+          (λ (source : Source). answer_of source.found),
+    )) picks
     (within (answers_in lists) is.found)
 
 -- ---- copies
@@ -118,46 +128,56 @@ module _ (choice : Choice) (bytes : ℕ) (piles : List (List ℕ)) (piled : Pile
       → NotesIndex choice (limits_of bytes) answers (Ok noted)
 
   -- what a publish is done with, that has made its file-set
-  pub done_publish : {E : Type 0} (r : Result ℕ E) (GivesLinks : Type 0) (folder : List ℕ) (old new : Option Held)
+  pub done_publish : (made : ℕ) (GivesLinks : Type 0) (folder : List ℕ) (old new : Option Held) → made ≤ 1
       → HasPiled piles old piled → NotesFound
-      → (IsOk r → MakesFileSet (IsCopyAt piles piled.places.items) (MayLinkAt GivesLinks piled.places.items) folder
-      noted.indexed.plan noted.indexed.picks.items old new)
-      → DonePublishes r choice bytes piles GivesLinks folder old new
-  done_publish (Ok status) GivesLinks folder old new (lists, are, is) notes made = λ done.
+      → MakesFileSet (IsCopyAt piles piled.places.items) (MayLinkAt GivesLinks piled.places.items)
+      (said_at piled.said.items) folder noted.indexed.plan noted.indexed.picks.items old new
+      → status_past made noted.indexed.skipped.items ≢ 1
+      → MakesPublish choice bytes piles GivesLinks folder (status_past made noted.indexed.skipped.items) old new
+  done_publish (suc made) GivesLinks folder old new least (lists, are, is) notes set done =
+      absurd (done (omega (arith, least)))
+  done_publish zero GivesLinks folder old new least (lists, are, is) notes set done =
       let picks = noted.indexed.picks.items in
       record {
         lists = lists;
         are = are;
+        all = zero_where_read (sources_in lists) noted.indexed.skipped.items
+            (notes (answers_in lists) is.found).0.skipped;
         indexed = noted.indexed;
         is = (notes (answers_in lists) is.found).0;
-        stands = stands_whole (IsCopyOf piles lists) (MayLinkCopy GivesLinks lists) folder noted.indexed.plan picks old
-            new
+        stands = stands_whole (IsCopyOf piles lists) (MayLinkCopy GivesLinks lists) (said_in lists) folder
+            noted.indexed.plan picks old new
             (set_each (IsCopyAt piles piled.places.items) (IsCopyOf piles lists)
-            (MayLinkAt GivesLinks piled.places.items) (MayLinkCopy GivesLinks lists) folder noted.indexed.plan picks
-            old new
+            (MayLinkAt GivesLinks piled.places.items) (MayLinkCopy GivesLinks lists) (said_in lists) folder
+            noted.indexed.plan picks old new
             (λ at. record {
               stands = λ path. copy_of piles lists piled at path is;
               links = λ bytes may. (may.0, may.1 ∙ same_size lists piled is at);
             })
-            (made refl));
+            (subst (λ (said : List (Option Parts)). MakesFileSet (IsCopyAt piles piled.places.items)
+            (MayLinkAt GivesLinks piled.places.items) (said_at said) folder noted.indexed.plan picks old new) is.said
+            set));
       }
-  done_publish (Err refusal) GivesLinks folder old new all notes made = tt
 
   -- the last line was printed after the notes, unless the output failed
-  pub publish_prints : {E W : Type 0} (writer : WriteOf W) (r : Result ℕ E) (style : Style) (is_dry is_strict : Bool)
+  pub publish_prints : {W : Type 0} (writer : WriteOf W) (made : ℕ) (style : Style) (is_dry is_strict : Bool)
       (files : Option Held) (old mid new : W) → HasPiled piles files piled → NotesFound
       → (notes : List ℕ) × SaysNotes style (words_of piled.names.items) noted notes × TakesText writer old mid notes
       → (is_strict ≡ true → ¬ IsNotedIndex noted)
-      → IfOk r (λ status. status ≡ 0 → TakesText writer mid new (last_line style is_dry noted.indexed.plan
-      (placed_bytes piled.places.items noted.indexed.picks.items)))
-      → IfOk r (λ status. status ≡ 0
-      → PrintsPublish writer style is_dry is_strict choice bytes piles files old new)
-  publish_prints writer (Ok status) style is_dry is_strict files old mid new (lists, are, is) indexes
-      (notes, said, took) strict next = λ done. record {
+      → (made ≡ 0 → TakesText writer mid new (last_line style is_dry noted.indexed.plan
+      (placed_bytes piled.places.items noted.indexed.picks.items))) → made ≤ 1
+      → status_past made noted.indexed.skipped.items ≢ 1
+      → PrintsPublish writer style is_dry is_strict choice bytes piles (status_past made noted.indexed.skipped.items)
+      files old new
+  publish_prints writer (suc made) style is_dry is_strict files old mid new (lists, are, is) indexes
+      (notes, said, took) strict next least done = absurd (done (omega (arith, least)))
+  publish_prints writer zero style is_dry is_strict files old mid new (lists, are, is) indexes
+      (notes, said, took) strict next least done = record {
         lists = lists;
         are = are;
         noted = noted;
         indexes = indexes (answers_in lists) is.found;
+        past = refl;
         names = words_of piled.names.items;
         shown = is.shown;
         notes = notes;
@@ -166,6 +186,5 @@ module _ (choice : Choice) (bytes : ℕ) (piles : List (List ℕ)) (piled : Pile
         printed = takes_both writer old mid new notes
             (last_line style is_dry noted.indexed.plan (image_bytes lists noted.indexed.picks.items)) took
             (subst (λ (images : ℕ). TakesText writer mid new (last_line style is_dry noted.indexed.plan images))
-            (same_bytes lists piled noted.indexed.picks.items is) (next done));
+            (same_bytes lists piled noted.indexed.picks.items is) (next refl));
       }
-  publish_prints writer (Err refusal) style is_dry is_strict files old mid new all indexes said strict next = tt

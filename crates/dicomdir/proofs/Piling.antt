@@ -1,7 +1,7 @@
 -- What is read of the lists of piles, source by source.
 use Rattle.std.proofs.Common.{◌≡◌, ◌∙◌, ◌+◌, ◌<◌, ◌++◌, ℕ, suc, List, [], ◌∷◌, Global, Option, String, ap, ap₂}
 use Rattle.std.proofs.Common.{arith, get_or, inl, inr, length, map, refl, string_bytes, subst, sym, take}
-use Rattle.std.proofs.lemmas.List.{get_or_append_left, get_or_push, length_push, map_push}
+use Rattle.std.proofs.lemmas.List.{get_or_append_left, get_or_push, length-append, length-map, length_push, map_push}
 use Rattle.std.proofs.lemmas.List.{length-take-le, take_more}
 use Rattle.dd_engine.specs.Found.{HasFound}
 use Rattle.dd_engine.specs.Indexing.{Answer}
@@ -10,12 +10,16 @@ use Rattle.dd_line.specs.Line.{words_of}
 use Rattle.dd_pile.specs.Lists.{IfList}
 use Rattle.dd_staged.specs.Sources.{Source}
 use Rattle.dd_staged.specs.Stages.{IsStage}
+use Rattle.dd_version.specs.declared.parts.Parts.{Parts}
 use Rattle.dicomdir.proofs.HavingPaths.{last_or_before}
-use Rattle.dicomdir.proofs.InPiles.{in_more, in_start, in_within, same_sources, sources_more}
+use Rattle.dicomdir.proofs.InPiles.{in_more, in_start, in_within, same_sources, sources_more, sources_then}
+use Rattle.dicomdir.proofs.UnreadPiles.{listed_more, names_more as bad_names_more, names_start}
 use Rattle.dicomdir.specs.Publishes.{AreLists, ArePlaces, AreShown, HasPiled, IsPiled, IsPlaceOf, IsShown}
-use Rattle.dicomdir.specs.Publishes.{answers_in, names_in, sources_in}
+use Rattle.dicomdir.specs.Publishes.{answers_in, names_in, sources_in, versions_in}
+use Rattle.dicomdir.specs.Unread.{absent_by, answer_of, bad_name_by, bad_names_from, listed_from, said_of}
 use Rattle.dicomdir.specs.declared.piles.Piled.{Piled}
 use Rattle.dicomdir.specs.declared.piles.Place.{Place}
+use Rattle.dicomdir.specs.declared.unread.StagedName.{StagedName}
 
 -- ---- no source yet
 
@@ -30,13 +34,17 @@ none_placed = record {
 }
 
 pub none_piled : (files : Option Held) (piled : Piled) → piled.names.items ≡ [] → piled.places.items ≡ []
+    → piled.said.items ≡ [] → piled.unread.absent.items ≡ [] → piled.unread.bad_names.items ≡ []
     → HasFound [] piled.found → HasPiled [] files piled
-none_piled files piled names places found = (
+none_piled files piled names places said absent bad_names found = (
   [],
   tt,
   record {
     shown = rw names none_shown;
     places = rw places none_placed;
+    said = said;
+    absent = absent;
+    bad_names = bad_names;
     found = found;
   },
 )
@@ -51,8 +59,20 @@ piled_start lists piled is = record {
     each = λ at pile number in_pile. is.places.each at pile number (in_start lists at pile number in_pile);
     sizes = is.places.sizes ∙ sym (ap (map (λ (source : Source). source.size)) (same_sources lists));
   };
+  said = is.said ∙ sym (ap (map (λ (source : Source). said_of source.found)) (same_sources lists));
+  absent = is.absent ∙ sym (ap (listed_from absent_by 0) (same_sources lists));
+  bad_names = is.bad_names ∙ sym (names_start 0 lists);
   found = rw (same_sources lists) is.found;
 }
+
+-- as many names as sources
+pub names_count : (lists : List (List Source)) (piled : Piled) → IsPiled lists piled
+    → length piled.names.items ≡ length (sources_in lists)
+names_count lists piled is = sym (length-map piled.names.items (λ name. string_bytes name)) ∙ is.shown.count
+    ∙ length-map (sources_in lists) (λ (source : Source). source.name)
+
+from_none : (n : ℕ) → n ≡ 0 + n
+from_none n = omega arith
 
 -- ---- one source more
 
@@ -84,9 +104,13 @@ module _ (lists : List (List Source)) (part : List Source) (source : Source) whe
   names_more = ap (map (λ (source : Source). source.name)) (sources_more lists part source)
       ∙ map_push (λ (source : Source). source.name) (sources_in before) source
 
-  answers_more : answers_in after ≡ answers_in before ++ source.found ∷ []
-  answers_more = ap (map (λ (source : Source). source.found)) (sources_more lists part source)
-      ∙ map_push (λ (source : Source). source.found) (sources_in before) source
+  answers_more : answers_in after ≡ answers_in before ++ answer_of source.found ∷ []
+  answers_more = ap (map (λ (source : Source). answer_of source.found)) (sources_more lists part source)
+      ∙ map_push (λ (source : Source). answer_of source.found) (sources_in before) source
+
+  versions_more : versions_in after ≡ versions_in before ++ said_of source.found ∷ []
+  versions_more = ap (map (λ (source : Source). said_of source.found)) (sources_more lists part source)
+      ∙ map_push (λ (source : Source). said_of source.found) (sources_in before) source
 
   abbrev no_place : Place
   no_place = record { pile = 0; number = 0; size = 0 }
@@ -121,16 +145,37 @@ module _ (lists : List (List Source)) (part : List Source) (source : Source) whe
     ];
   }
 
+  before_count : length (sources_in before) ≡ length (sources_in lists) + length part
+  before_count = ap length (sources_then lists part) ∙ length-append (sources_in lists) part
+
   -- a source was added: its name as lines show it, its place, and what was found of it
   pub piled_more : (old new : Piled) (text : String Global) (place : Place) → IsPiled before old
       → new.names.items ≡ old.names.items ++ text ∷ [] → IsShown source.name (string_bytes text)
       → new.places.items ≡ old.places.items ++ place ∷ [] → IsPlaceOf (length lists) (length part) place
-      → place.size ≡ source.size → ((answers : List Answer) → HasFound answers old.found → HasFound (answers ++ source.found ∷ []) new.found)
+      → place.size ≡ source.size → new.said.items ≡ old.said.items ++ said_of source.found ∷ []
+      → new.unread.absent.items ≡ old.unread.absent.items ++ absent_by (length old.names.items) source.found
+      → new.unread.bad_names.items
+      ≡ old.unread.bad_names.items ++ bad_name_by (length (sources_in lists)) (length old.names.items) source.found
+      → ((answers : List Answer) → HasFound answers old.found
+      → HasFound (answers ++ answer_of source.found ∷ []) new.found)
       → IsPiled after new
-  piled_more old new text place is names same places at size found = record {
+  piled_more old new text place is names same places at size said absent bad_names found = record {
     shown = rw (names, map_push (λ (text : String Global). string_bytes text) old.names.items text, names_more)
         (shown_more (names_in before) (words_of old.names.items) source.name (string_bytes text) is.shown same);
     places = rw places (places_more old.places.items place is.places at size);
+    said = said ∙ ap (λ (all : List (Option Parts)). all ++ said_of source.found ∷ []) is.said ∙ sym versions_more;
+    absent = absent ∙ ap (λ (all : List ℕ). all ++ absent_by (length old.names.items) source.found) is.absent
+        ∙ ap (λ (n : ℕ). listed_from absent_by 0 (sources_in before) ++ absent_by n source.found)
+        (names_count before old is ∙ from_none (length (sources_in before)))
+        ∙ sym (ap (listed_from absent_by 0) (sources_more lists part source)
+        ∙ listed_more absent_by 0 (sources_in before) source);
+    bad_names =
+        let first = length (sources_in lists) in
+        bad_names ∙ ap (λ (all : List StagedName).
+        all ++ bad_name_by first (length old.names.items) source.found) is.bad_names
+        ∙ ap₂ (λ (first at : ℕ). bad_names_from 0 before ++ bad_name_by first at source.found) (from_none first)
+        (names_count before old is ∙ before_count ∙ ap (λ (n : ℕ). n + length part) (from_none first))
+        ∙ sym (bad_names_more 0 lists part source);
     found = rw answers_more (found (answers_in before) is.found);
   }
 

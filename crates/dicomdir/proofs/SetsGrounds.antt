@@ -1,6 +1,6 @@
 -- What a refusal of file-sets rests on, whose fault comes from reading their directories, from their engine, or from
 -- making a file-set.
-use Rattle.std.proofs.Common.{◌≡◌, ℕ, Bool, List, [], Option, get_or, refl, subst, sym, true}
+use Rattle.std.proofs.Common.{◌≡◌, ℕ, Bool, List, [], Option, get_or, refl, subst, sym, true, None}
 use Rattle.std.specs.Prelude.{Err, IfErr, Ok, Result}
 use Rattle.dd_engine.specs.MergeNotes.{NotesSets, NotesSetsFault}
 use Rattle.dd_engine.specs.declared.choice.Choice.{Choice}
@@ -103,12 +103,13 @@ module _ (choice : Choice) (bytes : ℕ) (given folders : List (List ℕ)) (link
 
   pub making_grounds : {T : Type 0} (result : Result T Refusal) (sets : List (List ℕ)) (noted : NotedMerge)
       → AreDirectories folders sets old → NotesSets choice (limits_of bytes) given sets (Ok noted)
-      → IfErr result (λ refusal. GroundsOfMaking (HasUnfitImage (IsMemberPath folders) (λ _ _. links ≡ true) (links ≡ true)
+      → IfErr result (λ refusal. GroundsOfMaking (HasUnfitImage (IsMemberPath folders) (λ _ _. links ≡ true)
+      (λ _. None) (links ≡ true)
       noted.merged.plan noted.merged.picks.items new) (IsNoted noted) refusal.fault)
       → IfErr result (λ refusal. Grounds refusal.subject refusal.fault)
   making_grounds (Ok done) sets noted are h made = tt
   making_grounds (Err refusal) sets noted are h made =
-      sets_made (HasUnfitImage (IsMemberPath folders) (λ _ _. links ≡ true) (links ≡ true)
+      sets_made (HasUnfitImage (IsMemberPath folders) (λ _ _. links ≡ true) (λ _. None) (links ≡ true)
       noted.merged.plan noted.merged.picks.items new) (IsNoted noted)
       (λ unfit. record {
         sets = sets;

@@ -1,5 +1,5 @@
--- What the words of a line say of the making of a file-set: whether it is only planned, and whether it goes on past
--- sources that fail.
+-- What the words of a line say of what is made: whether it is only planned, and whether the run goes on past sources
+-- that fail.
 use Rattle.std.specs.Prelude.{◌≡◌, List, Option, None, Some, true}
 use Rattle.clap.specs.Takes.{is_given}
 use Rattle.clap.specs.Words.{Row, Text}

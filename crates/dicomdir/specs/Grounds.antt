@@ -1,5 +1,5 @@
 -- What a fault rests on that is of what was read: of sources, file-sets or piles, or of the files of picks.
-use Rattle.std.specs.Prelude.{◌≡◌, ◌≤◌, ◌^◌, ◌∷◌, ℕ, Bool, false, true, List, [], Option, Err, IfSome, IsSomeAnd}
+use Rattle.std.specs.Prelude.{◌≡◌, ◌≤◌, ◌^◌, ◌∷◌, ℕ, Bool, false, true, List, [], Option, Err, IfSome, IsSomeAnd, None}
 use Rattle.std.specs.Prelude.{Ok, codes, length, slice_index_or, string_bytes}
 use Rattle.clap.specs.Words.{Text}
 use Rattle.dd_dir.specs.Reading.{Refuses}
@@ -33,6 +33,7 @@ use Rattle.dd_line.specs.Requests.{keeps_going, read_of}
 use Rattle.dd_line.specs.declared.request.Request.{Request}
 use Rattle.dd_line.specs.declared.request.Request.TheVariants.{Check, Index, List as ListSet, Merge, Publish, Stage}
 use Rattle.dd_line.specs.declared.request.Request.TheVariants.{Withdraw}
+use Rattle.dd_version.specs.declared.parts.Parts.{Parts}
 use Rattle.dd_layout.specs.Layouts.{Layout}
 use Rattle.dd_layout.specs.declared.fault.PlanFault.{PlanFault}
 use Rattle.dd_pile.specs.Lists.{IfList}
@@ -46,7 +47,7 @@ use Rattle.dicomdir.specs.ListedNames.{AreSources, list_of}
 use Rattle.dicomdir.specs.Merges.{AreDirectories, HasDirectory}
 use Rattle.dicomdir.specs.Noted.{IsNoted, IsNotedIndex}
 use Rattle.dicomdir.specs.Origins.{IsMemberPath, IsPathAt}
-use Rattle.dicomdir.specs.Publishes.{AreLists, IsCopyOf, MayLinkCopy, answers_in}
+use Rattle.dicomdir.specs.Publishes.{AreLists, IsCopyOf, MayLinkCopy, answers_in, said_in}
 use Rattle.dicomdir.specs.Stages.{AreNamed}
 
 -- ---- faults
@@ -83,10 +84,10 @@ abbrev pub HasSuchDirectory : List ℕ → (List ℕ → Type 0) → Option Held
 HasSuchDirectory folder Is files = (path : List ℕ) × IsPathIn folder (codes "DICOMDIR") path × HasSuch path Is files
 
 -- the image of one of these picks can't be made of the bytes that its file has
-abbrev pub HasUnfitImage : {P : Type 0} → (P → List ℕ → Type 0) → (P → List ℕ → Type 0) → Type 0 → Layout → List P
-    → Option Held → Type 0
-HasUnfitImage From MayLink GivesLinks plan picks files =
-    HasUnfitPick From MayLink GivesLinks plan.versions (picked_rows plan picks) files
+abbrev pub HasUnfitImage : {P : Type 0} → (P → List ℕ → Type 0) → (P → List ℕ → Type 0) → (P → Option Parts) → Type 0
+    → Layout → List P → Option Held → Type 0
+HasUnfitImage From MayLink said GivesLinks plan picks files =
+    HasUnfitPick From MayLink said GivesLinks plan.versions (picked_rows plan picks) files
 
 -- the subject is the source of this number, and this is so of its path
 pub record IsOfOne (paths : List (List ℕ)) (subject : Subject) (Is : List ℕ → Type 0) : Type 0 where
@@ -112,7 +113,7 @@ pub record HasChangedSource (keeps_going : Bool) (choice : Choice) (bytes : ℕ)
   pub all : keeps_going ≡ false → NoneFailed readings
   pub indexed : Indexed
   pub is : IsIndexed choice (limits_of bytes) (answers_of readings) indexed
-  pub changed : HasUnfitImage (IsPathAt names) (λ _ _. ⊥) ⊥ indexed.plan indexed.picks.items new
+  pub changed : HasUnfitImage (IsPathAt names) (λ _ _. ⊥) (λ _. None) ⊥ indexed.plan indexed.picks.items new
 
 -- there is a note on what was read of them
 pub record HasNotedSources (keeps_going : Bool) (choice : Choice) (bytes : ℕ) (names : List (List ℕ))
@@ -168,7 +169,8 @@ pub record HasChangedMember (choice : Choice) (bytes : ℕ) (given folders : Lis
   pub own : AreOwn sets listings
   pub merged : Merged
   pub is : IsMerged choice (limits_of bytes) given listings merged
-  pub changed : HasUnfitImage (IsMemberPath folders) (λ _ _. GivesLinks) GivesLinks merged.plan merged.picks.items new
+  pub changed : HasUnfitImage (IsMemberPath folders) (λ _ _. GivesLinks)
+      (λ _. None) GivesLinks merged.plan merged.picks.items new
 
 -- there is a note on what they list
 pub record HasNotedSets (choice : Choice) (bytes : ℕ) (given folders : List (List ℕ)) (files : Option Held)
@@ -223,7 +225,8 @@ pub record HasChangedCopy (choice : Choice) (bytes : ℕ) (piles : List (List �
   pub are : AreLists piles lists old
   pub indexed : Indexed
   pub is : IsIndexed choice (limits_of bytes) (answers_in lists) indexed
-  pub changed : HasUnfitImage (IsCopyOf piles lists) (MayLinkCopy GivesLinks lists) GivesLinks indexed.plan
+  pub changed : HasUnfitImage (IsCopyOf piles lists) (MayLinkCopy GivesLinks lists)
+      (said_in lists) GivesLinks indexed.plan
       indexed.picks.items new
 
 -- there is a note on what they say
@@ -254,7 +257,8 @@ GroundsOfPiles choice bytes piles links old new subject fault =
 -- a pile of the files at the sources of these names has no list, since that would be too large
 pub record HasNoList (from pile : List ℕ) (names : List (List ℕ)) (old new : Option Held) : Type 0 where
   pub sources : List StageSource
-  pub are : AreNamed from names sources
+  pub bad : List ℕ
+  pub are : AreNamed from names bad sources
   pub large : HasNoRoom pile sources old new
 
 -- the grounds of a fault of `stage`

@@ -1,5 +1,5 @@
 -- What `index` makes of the files at its sources.
-use Rattle.std.specs.Prelude.{◌≡◌, ◌↔◌, ◌≤◌, ◌≢◌, ◌⊎◌, ℕ, zero, suc, List, Bool, true, false, Option, Result, Ok, Err}
+use Rattle.std.specs.Prelude.{◌≡◌, ◌↔◌, ◌≤◌, ◌≢◌, ◌⊎◌, ℕ, zero, suc, List, Bool, true, false, Option, Result, Ok, Err, None}
 use Rattle.std.specs.Prelude.{[], IfErr, IfOk, IfSome, IsOk, IsSomeAnd, length, min, slice_get, slice_index_or, sum_by}
 use Rattle.std.specs.Prelude.{if◌then◌else◌, unwrap_or}
 use Rattle.std.specs.List.{AllByRecursion, list_any}
@@ -105,7 +105,8 @@ pub record MakesIndex (choice : Choice) (bytes : ℕ) (sources : List (List ℕ)
   pub all : (status ≡ 0) ↔ NoneFailed readings
   pub indexed : Indexed
   pub is : IsIndexed choice (limits_of bytes) (answers_of readings) indexed
-  pub stands : IfSaid (StandsWhole (IsPathAt sources) (λ _ _. ⊥) folder indexed.plan indexed.picks.items) old new
+  pub stands : IfSaid (StandsWhole (IsPathAt sources) (λ _ _. ⊥) (λ _. None) folder indexed.plan indexed.picks.items)
+      old new
 
 -- `index` that is done has made this
 abbrev pub DoneIndexes : {E : Type 0} → Result ℕ E → Choice → ℕ → List (List ℕ) → List ℕ → Option Held → Option Held

@@ -23,6 +23,7 @@ pub mod Refused
 pub mod Said
 pub mod Stages
 pub mod Sum
+pub mod Unread
 pub mod Words
 pub use Rattle.dd_engine.specs.Choosing
 pub use Rattle.dd_engine.specs.Found

@@ -87,23 +87,24 @@ pub record WithdrawsRows (given : List Row) (old new : Option Held) : Type 0 whe
 
 -- `stage` made a pile of the files at its sources, and printed its sum: of the paths after PILE and, after these, of the
 -- names of its list
-pub record StagesRows {W : Type 0} (writer : WriteOf W) (given : List Row) (files made : Option Held) (old new : W)
-    : Type 0 where
+pub record StagesRows {W : Type 0} (writer : WriteOf W) (given : List Row) (status : ℕ) (files made : Option Held)
+    (old new : W) : Type 0 where
   pub pile : Text
   pub place : IsOnly out_name given pile
   pub names : List Text
-  pub are : AreSources false (list_in given) (given_for source_name given) files names
-  pub staged : Stages writer (style_by (is_given json_name given)) (from_in given) pile names files made old new
+  pub are : AreSources (is_given keep_going_name given) (list_in given) (given_for source_name given) files names
+  pub staged : Stages writer (style_by (is_given json_name given)) (is_given keep_going_name given) (from_in given) pile
+      names status files made old new
 
 -- `publish` made this of the piles in its folders: the paths after OUT and, after these, the names of its list
-pub record PublishesRows (given : List Row) (old new : Option Held) : Type 0 where
+pub record PublishesRows (given : List Row) (status : ℕ) (old new : Option Held) : Type 0 where
   pub folder : Text
   pub bytes : ℕ
   pub new_set : GivesNewSet given folder bytes
   pub piles : List Text
   pub are : AreSources false (list_in given) (given_for pile_name given) old piles
   pub made : MakesPublish (choice_of given) bytes piles (is_given link_name given ≡ true)
-      (looked_up (from_in given) folder) old new
+      (looked_up (from_in given) folder) status old new
 
 -- the same of the command that the words name, and what they give it
 abbrev pub IndexesLine : Option (Text × List Row) → ℕ → Option Held → Option Held → Type 0
@@ -118,13 +119,14 @@ abbrev pub WithdrawsLine : Option (Text × List Row) → Option Held → Option 
 WithdrawsLine None old new = ⊥
 WithdrawsLine (Some (command, given)) old new = WithdrawsRows given old new
 
-abbrev pub StagesLine : {W : Type 0} → WriteOf W → Option (Text × List Row) → Option Held → Option Held → W → W → Type 0
-StagesLine writer None files made old new = ⊥
-StagesLine writer (Some (command, given)) files made old new = StagesRows writer given files made old new
+abbrev pub StagesLine : {W : Type 0} → WriteOf W → Option (Text × List Row) → ℕ → Option Held → Option Held → W → W
+    → Type 0
+StagesLine writer None status files made old new = ⊥
+StagesLine writer (Some (command, given)) status files made old new = StagesRows writer given status files made old new
 
-abbrev pub PublishesLine : Option (Text × List Row) → Option Held → Option Held → Type 0
-PublishesLine None old new = ⊥
-PublishesLine (Some (command, given)) old new = PublishesRows given old new
+abbrev pub PublishesLine : Option (Text × List Row) → ℕ → Option Held → Option Held → Type 0
+PublishesLine None status old new = ⊥
+PublishesLine (Some (command, given)) status old new = PublishesRows given status old new
 
 -- ---- what it prints
 
@@ -159,14 +161,14 @@ pub record SaysOfSet {W : Type 0} (writer : WriteOf W) (given : List Row) (files
       files old new
 
 -- `publish` printed this of the piles in its folders
-pub record SaysOfPiles {W : Type 0} (writer : WriteOf W) (given : List Row) (files : Option Held) (old new : W)
-    : Type 0 where
+pub record SaysOfPiles {W : Type 0} (writer : WriteOf W) (given : List Row) (status : ℕ) (files : Option Held)
+    (old new : W) : Type 0 where
   pub bytes : ℕ
   pub limit : IsLimit (first_of max_bytes_name given) bytes
   pub piles : List Text
   pub are : AreSources false (list_in given) (given_for pile_name given) files piles
   pub says : PrintsPublish writer (style_by (is_given json_name given)) (is_given dry_run_name given)
-      (is_given strict_name given) (choice_of given) bytes piles files old new
+      (is_given strict_name given) (choice_of given) bytes piles status files old new
 
 abbrev pub IndexSays : {W : Type 0} → WriteOf W → Option (Text × List Row) → ℕ → Option Held → W → W → Type 0
 IndexSays writer None status files old new = ⊥
@@ -180,6 +182,6 @@ abbrev pub WithdrawSays : {W : Type 0} → WriteOf W → Option (Text × List Ro
 WithdrawSays writer None files old new = ⊥
 WithdrawSays writer (Some (command, given)) files old new = SaysOfSet writer given files old new
 
-abbrev pub PublishSays : {W : Type 0} → WriteOf W → Option (Text × List Row) → Option Held → W → W → Type 0
-PublishSays writer None files old new = ⊥
-PublishSays writer (Some (command, given)) files old new = SaysOfPiles writer given files old new
+abbrev pub PublishSays : {W : Type 0} → WriteOf W → Option (Text × List Row) → ℕ → Option Held → W → W → Type 0
+PublishSays writer None status files old new = ⊥
+PublishSays writer (Some (command, given)) status files old new = SaysOfPiles writer given status files old new

@@ -1,5 +1,5 @@
 -- What `merge` and `withdraw` make of file-sets.
-use Rattle.std.specs.Prelude.{◌≡◌, ℕ, List, [], ◌∷◌, Option, Result, IfOk, codes}
+use Rattle.std.specs.Prelude.{◌≡◌, ℕ, List, [], ◌∷◌, Option, Result, IfOk, codes, None}
 use Rattle.dd_engine.specs.declared.choice.Choice.{Choice}
 use Rattle.dd_engine.specs.declared.merge.Merged.{Merged}
 use Rattle.dd_engine.specs.Merging.{AreOwn, IsMerged, SetListing}
@@ -35,7 +35,8 @@ pub record MakesMerge (choice : Choice) (bytes : ℕ) (given folders : List (Lis
   pub own : AreOwn sets listings
   pub merged : Merged
   pub is : IsMerged choice (limits_of bytes) given listings merged
-  pub stands : IfSaid (StandsWhole (IsMemberPath folders) (λ _ _. GivesLinks) folder merged.plan merged.picks.items)
+  pub stands : IfSaid (StandsWhole (IsMemberPath folders) (λ _ _. GivesLinks)
+      (λ _. None) folder merged.plan merged.picks.items)
       old new
 
 -- a merge that is done has made this

@@ -1,7 +1,7 @@
 -- What `publish` makes of piles, and what it prints: as `index` does of their sources.
-use Rattle.std.specs.Prelude.{◌≡◌, ◌+◌, ◌<◌, ◌++◌, ◌∷◌, ℕ, List, [], Bool, Option, Result, Ok, IfOk, length, map}
+use Rattle.std.specs.Prelude.{◌≡◌, ◌≢◌, ◌↔◌, ◌+◌, ◌<◌, ◌++◌, ◌∷◌, ℕ, List, [], Bool, Option, None, Result, Ok, IfOk, length, map}
 use Rattle.std.specs.Prelude.{false, min, slice_index_or, sum_by, take, true}
-use Rattle.std.specs.List.{flat_map}
+use Rattle.std.specs.List.{AllByRecursion, flat_map}
 use Rattle.std.specs.Str.{IsUtf8}
 use Rattle.dd_elem.specs.Device.{last_count}
 use Rattle.dd_elem.specs.declared.device.Write.{Ghosts as WriteOf}
@@ -25,14 +25,16 @@ use Rattle.dd_pile.specs.declared.pile_fault.PileFault.TheVariants as list
 use Rattle.dd_staged.specs.Sources.{Source}
 use Rattle.dd_staged.specs.Stages.{IsStage}
 use Rattle.dicomdir.specs.Done.{ending_text, images_text}
-use Rattle.dicomdir.specs.Indexes.{limits_of}
+use Rattle.dicomdir.specs.Indexes.{limits_of, status_past}
 use Rattle.dicomdir.specs.ListedNames.{shown_name}
 use Rattle.dicomdir.specs.Noted.{IsNotedIndex}
 use Rattle.dicomdir.specs.Prints.{size_of}
 use Rattle.dicomdir.specs.Said.{SaysNotes}
+use Rattle.dd_version.specs.declared.parts.Parts.{Parts}
 use Rattle.dd_file_set.specs.Standing.{StandsWhole}
 use Rattle.dd_file_set.specs.declared.refusal.ProgramFault.{ProgramFault}
 use Rattle.dd_file_set.specs.declared.refusal.ProgramFault.TheVariants as faults
+use Rattle.dicomdir.specs.Unread.{WasRead, absent_by, answer_of, bad_names_from, listed_from, said_of}
 use Rattle.dicomdir.specs.declared.making.Ending.TheVariants.{Done}
 use Rattle.dicomdir.specs.declared.piles.Place.{Place}
 use Rattle.dicomdir.specs.declared.piles.Piled.{Piled}
@@ -52,7 +54,11 @@ sources_in lists = flat_map (λ list. list) lists
 
 -- what was found of them
 abbrev pub answers_in : List (List Source) → List Answer
-answers_in lists = map (λ source. source.found) (sources_in lists)
+answers_in lists = map (λ source. answer_of source.found) (sources_in lists)
+
+-- the version that is said of each, where one is
+abbrev pub versions_in : List (List Source) → List (Option Parts)
+versions_in lists = map (λ source. said_of source.found) (sources_in lists)
 
 -- the names that they were given
 abbrev pub names_in : List (List Source) → List (List ℕ)
@@ -98,6 +104,13 @@ pub record IsCopyOf (piles : List (List ℕ)) (lists : List (List Source)) (at :
 abbrev pub MayLinkCopy : Type 0 → List (List Source) → ℕ → List ℕ → Type 0
 MayLinkCopy GivesLinks lists at bytes = GivesLinks × (length bytes ≡ slice_index_or (sizes_in lists) at 0)
 
+-- the version that is said of the copy of this number: its copy is wholly of it
+abbrev pub said_at : List (Option Parts) → ℕ → Option Parts
+said_at said at = slice_index_or said at None
+
+abbrev pub said_in : List (List Source) → ℕ → Option Parts
+said_in lists at = said_at (versions_in lists) at
+
 -- the place of this number
 abbrev pub place_at : List Place → ℕ → Place
 place_at places at = slice_index_or places at (record { pile = 0; number = 0; size = 0 })
@@ -133,10 +146,14 @@ pub record ArePlaces (lists : List (List Source)) (places : List Place) : Type 0
   pub each : (at pile number : ℕ) → IsInPile lists at pile number → IsPlaceOf pile number (place_at places at)
   pub sizes : map (λ place. place.size) places ≡ sizes_in lists
 
--- what was read of these lists: the names as lines show them, the places of the copies, and what was found
+-- what was read of these lists: the names as lines show them, the places and versions of the copies, which sources were
+-- not read, and what was found
 pub record IsPiled (lists : List (List Source)) (piled : Piled) : Type 0 where
   pub shown : AreShown (names_in lists) (words_of piled.names.items)
   pub places : ArePlaces lists piled.places.items
+  pub said : piled.said.items ≡ versions_in lists
+  pub absent : piled.unread.absent.items ≡ listed_from absent_by 0 (sources_in lists)
+  pub bad_names : piled.unread.bad_names.items ≡ bad_names_from 0 lists
   pub found : HasFound (answers_in lists) piled.found
 
 -- that is read of the lists of these piles
@@ -146,21 +163,24 @@ HasPiled piles files piled = (lists : List (List Source)) × AreLists piles list
 -- ---- what is made and printed
 
 -- The best of all versions that the lists say is laid out under the label that is asked for, and the file-set of this
--- layout stands in the folder.
+-- layout stands in the folder. A copy is wholly of the version that its list says. The status is 0 exactly where each
+-- source was read when it was staged.
 pub record MakesPublish (choice : Choice) (bytes : ℕ) (piles : List (List ℕ)) (GivesLinks : Type 0) (folder : List ℕ)
-    (old new : Option Held) : Type 0 where
+    (status : ℕ) (old new : Option Held) : Type 0 where
   pub lists : List (List Source)
   pub are : AreLists piles lists old
+  pub all : (status ≡ 0) ↔ AllByRecursion (λ source. WasRead source.found) (sources_in lists)
   pub indexed : Indexed
   pub is : IsIndexed choice (limits_of bytes) (answers_in lists) indexed
-  pub stands : IfSaid (StandsWhole (IsCopyOf piles lists) (MayLinkCopy GivesLinks lists) folder indexed.plan
+  pub stands : IfSaid (StandsWhole (IsCopyOf piles lists) (MayLinkCopy GivesLinks lists)
+      (said_in lists) folder indexed.plan
       indexed.picks.items) old new
 
 -- a publish that is done has made this
 abbrev pub DonePublishes : {E : Type 0} → Result ℕ E → Choice → ℕ → List (List ℕ) → Type 0 → List ℕ → Option Held
     → Option Held → Type 0
 DonePublishes r choice bytes piles GivesLinks folder old new =
-    IfOk r (λ status. status ≡ 0 → MakesPublish choice bytes piles GivesLinks folder old new)
+    IfOk r (λ status. status ≢ 1 → MakesPublish choice bytes piles GivesLinks folder status old new)
 
 -- the bytes of the images of these sources, by the lengths of their copies, up to the largest count
 abbrev pub image_bytes : List (List Source) → List ℕ → ℕ
@@ -173,13 +193,14 @@ last_line style false plan images = ending_text style Done (length plan.versions
 last_line style true plan images = images_text style (length plan.versions) (size_of plan) images
 
 -- The notes on what the lists say, and then the last line, as `index` prints them of the sources. In a strict run nothing
--- is noted.
+-- is noted. The status says whether a source is skipped since it was not read.
 pub record PrintsPublish {W : Type 0} (writer : WriteOf W) (style : Style) (is_dry is_strict : Bool) (choice : Choice)
-    (bytes : ℕ) (piles : List (List ℕ)) (files : Option Held) (old new : W) : Type 0 where
+    (bytes : ℕ) (piles : List (List ℕ)) (status : ℕ) (files : Option Held) (old new : W) : Type 0 where
   pub lists : List (List Source)
   pub are : AreLists piles lists files
   pub noted : NotedIndex
   pub indexes : NotesIndex choice (limits_of bytes) (answers_in lists) (Ok noted)
+  pub past : status ≡ status_past 0 noted.indexed.skipped.items
   pub names : List (List ℕ)
   pub shown : AreShown (names_in lists) names
   pub notes : List ℕ

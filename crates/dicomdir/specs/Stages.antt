@@ -1,5 +1,6 @@
 -- What `stage` makes of the files at its sources, and what it prints.
-use Rattle.std.specs.Prelude.{◌≡◌, ◌∷◌, ℕ, List, [], Option, codes, map}
+use Rattle.std.specs.Prelude.{◌≡◌, ◌↔◌, ◌∷◌, ◌==◌, ℕ, zero, suc, Bool, false, List, [], Option, Some, codes, map}
+use Rattle.std.specs.Prelude.{if◌then◌else◌, slice_get}
 use Rattle.std.specs.Fmt.{decimal}
 use Rattle.dd_elem.specs.declared.device.Write.{Ghosts as WriteOf}
 use Rattle.dd_file_set.specs.declared.refusal.ProgramFault.{ProgramFault}
@@ -14,7 +15,9 @@ use Rattle.dd_pile.specs.declared.refusal.StageRefusal.{StageRefusal}
 use Rattle.dd_pile.specs.declared.refusal.StageRefusal.TheVariants as refusals
 use Rattle.dd_pile.specs.declared.source.StageSource.{StageSource}
 use Rattle.dd_pile.specs.declared.sum.StageSum.{StageSum}
+use Rattle.dicomdir.specs.FileSupply.{is_one}
 use Rattle.dicomdir.specs.From.{looked_up}
+use Rattle.dicomdir.specs.ListedNames.{HavePaths}
 use Rattle.dicomdir.specs.Said.{said_line}
 use Rattle.serde_json.specs.Data.{Data, string}
 
@@ -51,21 +54,34 @@ fault_of refusals.Memory = faults.Memory
 
 -- ---- what is made
 
--- these sources have these names, and are looked up in the folder `from`
-pub record AreNamed (from : List ℕ) (names : List (List ℕ)) (sources : List StageSource) : Type 0 where
-  pub called : map (λ source. source.name.now) sources ≡ names
-  pub placed : map (λ source. source.path.now) sources ≡ map (looked_up from) names
+-- The sources have these names, and are looked up in the folder `from`. These names are not UTF-8, and are listed as lines
+-- show them.
+pub record AreNamed (from : List ℕ) (names : List (List ℕ)) (bad : List ℕ) (sources : List StageSource) : Type 0 where
+  pub called : HavePaths names (map (λ source. source.name.now) sources) bad
+  pub placed : map (λ source. source.path.now) sources
+      ≡ map (looked_up from) (map (λ source. source.name.now) sources)
+  pub named : (at : ℕ) (source : StageSource) → slice_get sources at ≡ Some source
+      → source.is_bad_name ≡ is_one bad at
 
--- a pile was made of the files at the sources of these names, and this is its sum
-pub record MakesNamed (from pile : List ℕ) (names : List (List ℕ)) (sum : StageSum) (old new : Option Held) : Type 0
-  where
-    pub sources : List StageSource
-    pub are : AreNamed from names sources
-    pub makes : MakesPile pile sources sum old new
+-- A pile was made of the files at the sources of these names, and this is its sum. A source that was not read is in it
+-- only where the run keeps going.
+pub record MakesNamed (keeps_going : Bool) (from pile : List ℕ) (names : List (List ℕ)) (sum : StageSum)
+    (old new : Option Held) : Type 0 where
+  pub sources : List StageSource
+  pub bad : List ℕ
+  pub are : AreNamed from names bad sources
+  pub makes : MakesPile pile sources sum old new
+  pub all : keeps_going ≡ false → sum.unread ≡ 0
 
--- so it was, and the last line says the sum
-pub record Stages {W : Type 0} (writer : WriteOf W) (style : Style) (from pile : List ℕ) (names : List (List ℕ))
-    (files made : Option Held) (old new : W) : Type 0 where
+-- the status of a run with this sum, where its output has this status
+abbrev pub status_staged : ℕ → StageSum → ℕ
+status_staged zero sum = if sum.unread == 0 then 0 else 3
+status_staged (suc status) sum = suc status
+
+-- so it was, and the last line says the sum; the status is 0 exactly where each source was read
+pub record Stages {W : Type 0} (writer : WriteOf W) (style : Style) (keeps_going : Bool) (from pile : List ℕ)
+    (names : List (List ℕ)) (status : ℕ) (files made : Option Held) (old new : W) : Type 0 where
   pub sum : StageSum
-  pub pile_made : MakesNamed from pile names sum files made
+  pub pile_made : MakesNamed keeps_going from pile names sum files made
+  pub all : (status ≡ 0) ↔ (sum.unread ≡ 0)
   pub printed : TakesText writer old new (staged_text style sum)

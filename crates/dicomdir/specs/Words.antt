@@ -26,9 +26,10 @@ IsTaken words = takes dicomdir_app (words_of words) ≡ true
 abbrev pub line_of : {Z : Type 0} → List (String Z) → Option (Text × List Row)
 line_of words = subcommand_of dicomdir_app (words_of words)
 
--- the command finds something where it ends with 3: `check`, or an `index` that goes on past sources that fail
+-- the command finds something where it ends with 3: `check`, one that goes on past sources that fail, or `publish`, whose
+-- piles may come of such a one
 abbrev pub MayFind : Request → Type 0
-MayFind r = (verb_of r ≡ verbs.Check) ⊎ (keeps_going r ≡ true)
+MayFind r = (verb_of r ≡ verbs.Check) ⊎ (keeps_going r ≡ true) ⊎ (verb_of r ≡ verbs.Publish)
 
 -- a status that a run of this request may end with, once its line is read and its names are
 abbrev pub IsStatusOf : Request → ℕ → Type 0
@@ -53,7 +54,7 @@ MakesOf (Withdraw x) choice withdrawn sources status old new = MakesMerge choice
     (string_bytes x.set ∷ []) ⊥ (string_bytes x.new_set.out) old new
 MakesOf (Stage x) choice withdrawn sources status old new = Unit {0}
 MakesOf (Publish x) choice withdrawn sources status old new = MakesPublish choice x.new_set.max_bytes sources
-    (x.link ≡ true) (looked_up (from_text x.from) (string_bytes x.new_set.out)) old new
+    (x.link ≡ true) (looked_up (from_text x.from) (string_bytes x.new_set.out)) status old new
 MakesOf (Check x) choice withdrawn sources status old new = Unit {0}
 MakesOf (ListSet x) choice withdrawn sources status old new = Unit {0}
 
@@ -76,7 +77,7 @@ SaysOf writer (Withdraw x) choice withdrawn sources status files old new =
     (string_bytes x.set ∷ []) files old new
 SaysOf writer (Stage x) choice withdrawn sources status files old new = Unit {0}
 SaysOf writer (Publish x) choice withdrawn sources status files old new = PrintsPublish writer
-    (style_by x.new_set.json) x.new_set.dry_run x.new_set.strict choice x.new_set.max_bytes sources files old new
+    (style_by x.new_set.json) x.new_set.dry_run x.new_set.strict choice x.new_set.max_bytes sources status files old new
 SaysOf writer (Check x) choice withdrawn sources status files old new = Unit {0}
 SaysOf writer (ListSet x) choice withdrawn sources status files old new = Unit {0}
 
@@ -88,19 +89,20 @@ pub record SaysRequested {W : Type 0} (writer : WriteOf W) (r : Request) (choice
   pub says : SaysOf writer r choice withdrawn sources status files old new
 
 -- what a request that stages makes and prints of the sources of these names
-abbrev pub StagesOf : {W : Type 0} → WriteOf W → Request → List Text → Option Held → Option Held → W → W → Type 0
-StagesOf writer (Index x) names files made old new = Unit {0}
-StagesOf writer (Merge x) names files made old new = Unit {0}
-StagesOf writer (Withdraw x) names files made old new = Unit {0}
-StagesOf writer (Stage x) names files made old new =
-    Stages writer (style_by x.json) (from_text x.from) (string_bytes x.pile) names files made old new
-StagesOf writer (Publish x) names files made old new = Unit {0}
-StagesOf writer (Check x) names files made old new = Unit {0}
-StagesOf writer (ListSet x) names files made old new = Unit {0}
+abbrev pub StagesOf : {W : Type 0} → WriteOf W → Request → List Text → ℕ → Option Held → Option Held → W → W → Type 0
+StagesOf writer (Index x) names status files made old new = Unit {0}
+StagesOf writer (Merge x) names status files made old new = Unit {0}
+StagesOf writer (Withdraw x) names status files made old new = Unit {0}
+StagesOf writer (Stage x) names status files made old new =
+    Stages writer (style_by x.json) x.keep_going (from_text x.from) (string_bytes x.pile) names status files made
+    old new
+StagesOf writer (Publish x) names status files made old new = Unit {0}
+StagesOf writer (Check x) names status files made old new = Unit {0}
+StagesOf writer (ListSet x) names status files made old new = Unit {0}
 
 -- the same of the paths that it reads and, after them, the names of its list
-pub record StagesRequested {W : Type 0} (writer : WriteOf W) (r : Request) (files made : Option Held) (old new : W)
-    : Type 0 where
+pub record StagesRequested {W : Type 0} (writer : WriteOf W) (r : Request) (status : ℕ) (files made : Option Held)
+    (old new : W) : Type 0 where
   pub names : List Text
   pub are : AreSources (keeps_going r) (list_of r) (words_of (read_of r)) files names
-  pub staged : StagesOf writer r names files made old new
+  pub staged : StagesOf writer r names status files made old new

@@ -35,9 +35,9 @@ impl fmt::Display for Shown<'_> {
     }
 }
 
-/// Shows each wrong date and time in the STUDY records of the plan, if a person is shown such things. That is ten lines
-/// at most, and then how many more there are.
-pub(crate) fn show_dates<F: Files + Hints>(explains: bool, plan: &Plan, files: &mut F)
+/// Keeps a line for each wrong date and time in the STUDY records of the plan, if a person is shown such things. That
+/// is ten lines at most, and then how many more there are. They are shown once the run has ended, after FAULT.
+pub(crate) fn keep_dates<F: Files + Hints>(explains: bool, plan: &Plan, files: &mut F)
     ensures kept { F.held files.new ≡ F.held files.old }
 {
     if !explains {
@@ -47,27 +47,27 @@ pub(crate) fn show_dates<F: Files + Hints>(explains: bool, plan: &Plan, files: &
     for record in plan.records() {
         if record.level == Level::Study {
             if let Some(version) = plan.versions().get(record.of) {
-                show_dates_of(&version.parts().study, &mut count, files);
+                keep_dates_of(&version.parts().study, &mut count, files);
             }
         }
     }
-    show_rest(count, files);
+    keep_rest(count, files);
 }
 
-fn show_dates_of<F: Files + Hints>(study: &StudyKeys, count: &mut u64, files: &mut F)
+fn keep_dates_of<F: Files + Hints>(study: &StudyKeys, count: &mut u64, files: &mut F)
     ensures kept { F.held files.new ≡ F.held files.old }
 {
     if !is_date(study.date.as_bytes()) {
         let words = " is no Study Date, which has eight digits: 19930430";
-        show_value(study, study.date.as_bytes(), words, count, files);
+        keep_value(study, study.date.as_bytes(), words, count, files);
     }
     if !is_time(study.time.as_bytes()) {
         let words = " is no Study Time, which has two to six digits: 143000";
-        show_value(study, study.time.as_bytes(), words, count, files);
+        keep_value(study, study.time.as_bytes(), words, count, files);
     }
 }
 
-fn show_value<F: Files + Hints>(
+fn keep_value<F: Files + Hints>(
     study: &StudyKeys,
     value: &[u8],
     words: &str,
@@ -82,16 +82,16 @@ fn show_value<F: Files + Hints>(
     }
     let uid = UidText::of(&study.uid);
     let shown = InlineText::<SHOWN>::of(Shown(value));
-    files.show_line(&["  help: study ", uid.as_str(), ": ", shown.as_str(), words]);
+    files.keep_line(&["  help: study ", uid.as_str(), ": ", shown.as_str(), words]);
 }
 
-fn show_rest<F: Files + Hints>(count: u64, files: &mut F)
+fn keep_rest<F: Files + Hints>(count: u64, files: &mut F)
     ensures kept { F.held files.new ≡ F.held files.old }
 {
     if count > MOST {
         let mut more = Buffer::new();
         let more = more.format(count.saturating_sub(MOST));
-        files.show_line(&["  help: ", more, " more dates and times like these"]);
+        files.keep_line(&["  help: ", more, " more dates and times like these"]);
     }
 }
 

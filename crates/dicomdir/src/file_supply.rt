@@ -95,7 +95,7 @@ impl<'a, F: Files> FileSupply<'a, F> {
 }
 
 #[tactic(auto, using(crate::proofs::BadNames::found))]
-fn contains(numbers: &[usize], at: usize) -> bool
+pub(crate) fn contains(numbers: &[usize], at: usize) -> bool
     requires { AreRising numbers.now }
     ensures { result ≡ is_one numbers.now at }
 {

@@ -131,7 +131,7 @@ fn step_of(fault: &ProgramFault) -> &'static str {
         ProgramFault::TooLong => "leave it out, or make two lists",
         ProgramFault::ListTooLarge => "make two piles, each of some of the sources",
         ProgramFault::BadStage(_) =>
-            "its stage has not ended with status 0: remove the pile and stage it anew",
+            "its list is not whole, or was changed: remove the pile and stage it anew",
         ProgramFault::Own(_) => {
             "only a DICOMDIR of this program can be merged: index the images of the set instead"
         }

@@ -20,15 +20,16 @@ ghost use Rattle.dicomdir.specs.Reasons.{IsDue, IsOfEngine};
 ghost use Rattle.dicomdir.specs.Said.{SaysNotes};
 ghost use Rattle.dicomdir.specs.Grounds.{GroundsOfIndex, HaveNoPlan, run_fault};
 
-use crate::dates::show_dates;
+use crate::dates::keep_dates;
 use crate::file_supply::FileSupply;
 use crate::making::{Making, make_file_set, tell_plan_of_images};
 use crate::note_lines::{
-    Unread, has_notes, refuse_noted, tell_conflict, tell_left_out, tell_names, tell_skipped,
+    has_notes, refuse_noted, tell_conflict, tell_left_out, tell_names, tell_skipped,
 };
 use crate::origins::SourceFiles;
 use crate::source_counts::SourceCounts;
 use crate::sum::{Sum, show_sum};
+use crate::unread::{BadNames, Unread};
 use dd_elem::{Memory, Write};
 use dd_engine::{
     EngineFault, NotedFault, NotedIndex, PastFailures, index_past_failures, index_with_notes,
@@ -120,13 +121,14 @@ fn index_sources<F: Files + Progress + Hints, O: Write>(
         Ok(past) => past,
         Err(fault) => return Err(refuse(sources, &fault, making.style, out)),
     };
-    if tell_noted(&past, sources, making.bad_names, making.style, out).is_err() {
+    let bad_names = BadNames::Listed(making.bad_names);
+    if tell_noted(&past, sources, bad_names, making.style, out).is_err() {
         return Ok(1);
     }
-    *sum = Sum::of(&past.noted, sources.len());
+    *sum = Sum::of(&past, bad_names, sources.len());
     refuse_noted(making.strict, is_noted(&past.noted))?;
     let indexed = &past.noted.indexed;
-    show_dates(making.explains_in_words(), &indexed.plan, files);
+    keep_dates(making.explains_in_words(), &indexed.plan, files);
     if making.dry_run {
         let images = bytes_of(&indexed.picks, &counts);
         let status = tell_plan_of_images(&indexed.plan, images, making.style, out);
@@ -144,7 +146,7 @@ fn index_sources<F: Files + Progress + Hints, O: Write>(
 
 /// Gives the status of a run whose output worked or failed, by the sources that it skipped: 3 where one could not be
 /// opened or read.
-fn status_past(status: u8, skipped: &[(usize, KeyFault)]) -> u8
+pub(crate) fn status_past(status: u8, skipped: &[(usize, KeyFault)]) -> u8
     requires { status ≤ 1 }
     ensures { result ≡ status_past status skipped.now }
 {
@@ -170,7 +172,7 @@ pub(crate) fn is_noted(noted: &NotedIndex) -> bool
 pub(crate) fn tell_noted<O: Write>(
     past: &PastFailures,
     sources: &[String],
-    bad_names: &[usize],
+    bad_names: BadNames<'_>,
     style: Style,
     out: &mut O,
 ) -> fmt::Result
@@ -183,10 +185,7 @@ pub(crate) fn tell_noted<O: Write>(
     ensures failed { IsErr result → HasFailed (O.failures out.old) (O.failures out.new) }
 {
     let NotedIndex { indexed, notes } = &past.noted;
-    let unread = Unread {
-        absent: &past.absent,
-        bad_names,
-    };
+    let unread = Unread::of(past, bad_names);
     tell_skipped(&indexed.skipped, unread, sources, style, out)?;
     tell_left_out(&notes.left_out, sources, style, out)?;
     tell_names(&notes.names, style, out)

@@ -38,6 +38,7 @@ mod source_paths;
 mod staging;
 mod sum;
 mod telling;
+mod unread;
 
 pub use dd_engine::{
     Choice, ConflictingFiles, EngineFault, Indexed, LeftOut, MergeFault, Merged, NotedFault,
@@ -50,7 +51,7 @@ pub use dd_files::{
     Cause, CopyFault, DIRECTORY, Files, Hints, LinkFault, NotDone, NotThere, Progress, Step,
     copy_image, digest_text,
 };
-pub use dd_filing::{Filed, FilingFault, copy_version, file_image};
+pub use dd_filing::{Filed, FilingFault, Wanted, copy_version, file_image};
 pub use dd_line::{Asked, LineFault, Verb, read_words};
 pub use dd_lines::{print_line, send_text};
 pub use dd_report::{Comparison, Finding, finding_of};

@@ -121,13 +121,14 @@ pub(crate) fn make_file_set<F: Files + Progress, O: Origins, W: Write>(
     ensures due { IfErr result (λ refusal.
         IsDueTo F.In.Read (F.refusals files.new) (F.Write.failures files.new) refusal.fault) }
     ensures grounds { IfErr result (λ refusal. GroundsOfMaking (HasUnfitImage
-        (O.stands_at set.now.origins.now) (O.may_link set.now.origins.now) (O.gives_links set.now.origins.now)
+        (O.stands_at set.now.origins.now) (O.may_link set.now.origins.now) (O.said set.now.origins.now)
+        (O.gives_links set.now.origins.now)
         set.now.plan.now set.now.picks.now (F.held files.new)) ⊥ refusal.fault) }
     ensures failed { IfOk result (λ status. status ≡ 1 → HasFailed (W.failures out.old) (W.failures out.new)) }
     ensures status { IfOk result (λ status. status ≤ 1) }
     ensures last { IfSaid (MakesDirectoryLast set.now.folder.now) (F.held files.old) (F.held files.new) }
     ensures made { IsOk result → MakesFileSet
-        (O.stands_at set.now.origins.now) (O.may_link set.now.origins.now)
+        (O.stands_at set.now.origins.now) (O.may_link set.now.origins.now) (O.said set.now.origins.now)
         set.now.folder.now set.now.plan.now set.now.picks.now
         (F.held files.old) (F.held files.new) }
     ensures printed { IfOk result (λ status. status ≡ 0 → TakesText W.Write out.old out.new

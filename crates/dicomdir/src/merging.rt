@@ -1,6 +1,6 @@
 //! The commands `merge` and `withdraw`: make a file-set of others.
 ghost use Rattle.std.specs.Prelude.{◌≡◌, ◌↔◌, ◌<◌, ◌≤◌, ℕ, List, [], IfErr, IfOk, IsErr, IsOk, IsTrue, OnOk};
-ghost use Rattle.std.specs.Prelude.{◌∷◌, ◌++◌, false, length, map, string_bytes, true};
+ghost use Rattle.std.specs.Prelude.{◌∷◌, ◌++◌, None, false, length, map, string_bytes, true};
 ghost use Rattle.dd_elem.specs.Device.{HasFailed};
 ghost use Rattle.dd_engine.specs.Merging.{IsNamedSet};
 ghost use Rattle.dd_engine.specs.Noting.{IsBelow};
@@ -18,7 +18,7 @@ ghost use Rattle.dicomdir.specs.Reasons.{IsDue, IsOfEngine, set_refusal};
 ghost use Rattle.dicomdir.specs.Said.{SaysSetNotes};
 ghost use Rattle.dicomdir.specs.Grounds.{GroundsOfMaking, GroundsOfSets, HasUnfitImage};
 
-use crate::dates::show_dates;
+use crate::dates::keep_dates;
 use crate::making::{Ending, Making, make_file_set, tell_counts};
 use crate::note_lines::{has_notes, refuse_noted, tell_conflict, tell_left_out, tell_names};
 use crate::origins::SetFiles;
@@ -212,8 +212,9 @@ fn write_noted<'a, F: Files + Progress + Hints, O: Write>(
     ensures due { IfErr result (λ refusal. IsDue F.In.Read (F.refusals files.new) (F.Write.failures files.new)
         making.entry.strict refusal.fault) }
     ensures grounds { IfErr result (λ refusal. GroundsOfMaking (HasUnfitImage
-        (IsMemberPath (words_of sets.now.folders.now)) (λ _ _. sets.now.link ≡ true) (sets.now.link ≡ true)
-        noted.now.merged.plan noted.now.merged.picks.items (F.held files.new)) (IsNoted noted.now) refusal.fault) }
+        (IsMemberPath (words_of sets.now.folders.now)) (λ _ _. sets.now.link ≡ true) (λ _. None)
+        (sets.now.link ≡ true) noted.now.merged.plan noted.now.merged.picks.items (F.held files.new))
+        (IsNoted noted.now) refusal.fault) }
     ensures failed { IfOk result (λ status. status ≡ 1 → HasFailed (O.failures out.old) (O.failures out.new)) }
     ensures status { IfOk result (λ status. status ≤ 1) }
     ensures dry { making.entry.dry_run ≡ true → F.held files.new ≡ F.held files.old }
@@ -223,7 +224,7 @@ fn write_noted<'a, F: Files + Progress + Hints, O: Write>(
         × (F.held files.new ≡ F.held files.old) }
     ensures made { making.entry.dry_run ≡ false → IfOk result (λ status. status ≡ 0
         → MakesFileSet
-        (IsMemberPath (words_of sets.now.folders.now)) (λ _ _. sets.now.link ≡ true)
+        (IsMemberPath (words_of sets.now.folders.now)) (λ _ _. sets.now.link ≡ true) (λ _. None)
         making.entry.folder.now noted.now.merged.plan noted.now.merged.picks.items
         (F.held files.old) (F.held files.new)) }
     ensures printed { IfOk result (λ status. status ≡ 0 → (notes : List ℕ)
@@ -236,7 +237,7 @@ fn write_noted<'a, F: Files + Progress + Hints, O: Write>(
         return Ok(1);
     }
     refuse_noted(making.strict, is_noted(noted))?;
-    show_dates(making.explains_in_words(), &noted.merged.plan, files);
+    keep_dates(making.explains_in_words(), &noted.merged.plan, files);
     if making.dry_run {
         let plan = &noted.merged.plan;
         return Ok(tell_counts(Ending::Planned, plan, making.style, out));

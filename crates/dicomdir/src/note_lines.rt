@@ -14,6 +14,7 @@ ghost use Rattle.serde_json.specs.Data.{Data};
 use crate::note_json;
 use crate::refusal::Words;
 use crate::shown_path::{ShownFile, ShownPath};
+use crate::unread::Unread;
 use dd_elem::{Key, Uid, Write};
 use dd_engine::{ConflictingFiles, LeftOut, Notes, PatientNames};
 use dd_file_set::{ProgramFault, Refusal};
@@ -27,28 +28,6 @@ use std::str;
 
 /// The text of a UID: it has at most 64 characters (PS3.5 section 9.1).
 pub(crate) type UidText = InlineText<64>;
-
-/// The sources that could not be read, by their numbers, in rising order.
-#[derive(Clone, Copy)]
-pub(crate) struct Unread<'a> {
-    /// Those that could not be opened.
-    pub(crate) absent: &'a [usize],
-    /// Those of them that have no path, since their names are not UTF-8.
-    pub(crate) bad_names: &'a [usize],
-}
-
-impl Unread<'_> {
-    /// Says why the source of this number was not read.
-    fn fault_of(&self, at: usize) -> ProgramFault {
-        if self.bad_names.binary_search(&at).is_ok() {
-            ProgramFault::BadName(at.saturating_add(1))
-        } else if self.absent.binary_search(&at).is_ok() {
-            ProgramFault::Absent
-        } else {
-            ProgramFault::Unread
-        }
-    }
-}
 
 /// Prints each source that is skipped, and why.
 pub(crate) fn tell_skipped<O: Write>(

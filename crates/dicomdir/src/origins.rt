@@ -1,9 +1,9 @@
 //! The files that images are made of: sources, files of file-sets, or copies in piles.
 ghost use Rattle.std.proofs.Props.{props};
-ghost use Rattle.std.specs.Prelude.{◌≡◌, ◌<◌, All, length, map, string_bytes, true};
+ghost use Rattle.std.specs.Prelude.{◌≡◌, ◌<◌, All, None, length, map, string_bytes, true};
 ghost use Rattle.dd_file_set.specs.Refusal.{IsPileFile, IsSetFile, IsSource};
 ghost use Rattle.dicomdir.specs.Origins.{IsClaimant, IsMemberPath, IsPathAt};
-ghost use Rattle.dicomdir.specs.Publishes.{IsCopyAt, MayLinkAt, pile_at, place_at};
+ghost use Rattle.dicomdir.specs.Publishes.{IsCopyAt, MayLinkAt, pile_at, place_at, said_at};
 
 use crate::pile_path::PilePath;
 use crate::piles::Place;
@@ -38,6 +38,8 @@ impl Origins for SourceFiles<'_> {
 
     ghost may_link = { λ _ _ _. ⊥ };
 
+    ghost said = { λ _ _. None };
+
     ghost is_subject = { λ _ at subject. IsSource at subject };
 
     ghost is_claimant = { λ _ at planned subject. IsSource at subject };
@@ -52,6 +54,10 @@ impl Origins for SourceFiles<'_> {
 
     fn gives_links(&self) -> bool {
         false
+    }
+
+    fn said(&self, _at: usize) -> Option<&Version> {
+        None
     }
 
     fn claimant(&self, _alloc: Global, at: usize, _planned: &Version) -> Result<Subject, Memory> {
@@ -91,6 +97,8 @@ impl<'a> Origins for SetFiles<'_, 'a> {
 
     ghost may_link = { λ s _ _. s.link ≡ true };
 
+    ghost said = { λ _ _. None };
+
     ghost is_subject = { λ _ pick subject. IsSetFile pick.set subject };
 
     ghost is_claimant = { λ s pick planned subject.
@@ -106,6 +114,10 @@ impl<'a> Origins for SetFiles<'_, 'a> {
 
     fn gives_links(&self) -> bool {
         self.link
+    }
+
+    fn said(&self, _pick: Pick<'a>) -> Option<&Version> {
+        None
     }
 
     fn claimant(
@@ -132,6 +144,8 @@ impl<'a> Origins for SetFiles<'_, 'a> {
 pub(crate) struct PileFiles<'a> {
     pub(crate) folders: &'a [String],
     pub(crate) places: &'a [Place],
+    /// Of which version each copy is, where one is said.
+    pub(crate) said: &'a [Option<Version>],
     pub(crate) link: bool,
     ghost in_piles: { All (λ place. place.pile < length folders.now) places.now } by { Prim.hlevel props },
 }
@@ -152,6 +166,8 @@ impl Origins for PileFiles<'_> {
 
     ghost may_link = { λ s at bytes. MayLinkAt (s.link ≡ true) s.places.now at bytes };
 
+    ghost said = { λ s at. said_at s.said.now at };
+
     ghost is_subject = { λ s at subject. IsPileFile (pile_at s.places.now at) subject };
 
     ghost is_claimant = { λ s at planned subject. IsPileFile (pile_at s.places.now at) subject };
@@ -162,11 +178,19 @@ impl Origins for PileFiles<'_> {
     }
 
     fn lookup(&self, at: usize) -> Lookup<'_> {
-        Lookup::Stored(place_at(self.places, at).size)
+        let place = place_at(self.places, at);
+        Lookup::Stored(path_at(self.folders, place.pile), place.size)
     }
 
     fn gives_links(&self) -> bool {
         self.link
+    }
+
+    fn said(&self, at: usize) -> Option<&Version> {
+        match self.said.get(at) {
+            Some(Some(version)) => Some(version),
+            Some(None) | None => None,
+        }
     }
 
     fn claimant(&self, _alloc: Global, at: usize, _planned: &Version) -> Result<Subject, Memory> {

@@ -10,17 +10,21 @@ ghost use Rattle.dd_staged.specs.Refusals.{IsBadStage, sources_view};
 ghost use Rattle.dd_staged.specs.Sources.{Source, source_view};
 ghost use Rattle.dicomdir.specs.ListedNames.{shown_name};
 ghost use Rattle.dicomdir.specs.Grounds.{GroundsOfPiles, IsTooLong};
-ghost use Rattle.dicomdir.specs.Publishes.{HasPiled, IsPiled, fault_of};
+ghost use Rattle.dicomdir.specs.Publishes.{HasPiled, IsPiled, fault_of, sources_in};
+ghost use Rattle.dicomdir.specs.Unread.{answer_of, said_of};
 ghost use Rattle.dd_file_set.specs.Refusal.{IsOfWork};
 ghost use Rattle.dicomdir.specs.Reasons.{IsDue};
 
 use crate::listed_names::masked;
+use crate::unread::UnreadStaged;
 use dd_elem::Memory;
 use dd_engine::FoundSources;
 use dd_file_set::{PathText, ProgramFault, Refusal, Subject};
 use dd_files::{Files, Progress, Step};
+use dd_keys::KeyFault;
 use dd_pile::{PileFault, STAGED, read_pile};
-use dd_staged::Staged;
+use dd_staged::{SourceFault, Staged};
+use dd_version::Version;
 use std::alloc::Global;
 
 /// The copy of a source.
@@ -40,6 +44,9 @@ pub(crate) struct Piled {
     /// Their names, as lines show them.
     pub(crate) names: Vec<String>,
     pub(crate) places: Vec<Place>,
+    /// Of which version each copy is, where the list says one.
+    pub(crate) said: Vec<Option<Version>>,
+    pub(crate) unread: UnreadStaged,
     pub(crate) found: FoundSources,
 }
 
@@ -61,6 +68,8 @@ pub(crate) fn read_piles<F: Files + Progress>(
     let mut piled = Piled {
         names: Vec::new(alloc),
         places: Vec::new(alloc),
+        said: Vec::new(alloc),
+        unread: UnreadStaged::new(alloc),
         found: FoundSources::new(alloc),
     };
     files.begin_step(Step::Reading, piles.len() as u64);
@@ -80,30 +89,69 @@ fn add_list(alloc: Global, pile: usize, list: Vec<Staged>, piled: &mut Piled) ->
     ensures { IsOk result → (lists : List (List Source)) → length lists ≡ pile
         → IsPiled lists piled.old → IsPiled (lists ++ sources_view list ∷ []) piled.new }
 {
+    let before = piled.names.len();
     let mut number = 0;
     for staged in list {
         number += 1;
-        add_source(alloc, (pile, number), staged, piled)?;
+        let turn = Turn {
+            pile,
+            number,
+            before,
+        };
+        add_source(alloc, turn, staged, piled)?;
     }
     Ok(())
 }
 
-/// Adds the source at this place: the number of its pile, from 0, and its number in that pile, from 1.
-fn add_source(
-    alloc: Global,
-    place: (usize, usize),
-    staged: Staged,
-    piled: &mut Piled,
-) -> Result<(), Memory>
+/// Which source of a pile is added.
+#[derive(Clone, Copy)]
+struct Turn {
+    /// The number of its pile, from 0.
+    pile: usize,
+    /// Its number in that pile, from 1.
+    number: usize,
+    /// How many sources the piles before have.
+    before: usize,
+}
+
+fn add_source(alloc: Global, turn: Turn, staged: Staged, piled: &mut Piled) -> Result<(), Memory>
     ensures { IsOk result → (lists : List (List Source)) → (part : List Source)
-        → length lists ≡ place.0 → length part + 1 ≡ place.1 → IsPiled (lists ++ part ∷ []) piled.old
+        → length lists ≡ turn.pile → length part + 1 ≡ turn.number → length (sources_in lists) ≡ turn.before
+        → IsPiled (lists ++ part ∷ []) piled.old
         → IsPiled (lists ++ (part ++ source_view staged ∷ []) ∷ []) piled.new }
 {
-    let (pile, number) = place;
+    let Turn {
+        pile,
+        number,
+        before,
+    } = turn;
     let Staged { name, size, found } = staged;
+    piled.unread.add(piled.names.len(), before, &found)?;
     piled.names.push(shown_name(alloc, &name)?)?;
     piled.places.push(Place { pile, number, size })?;
-    piled.found.push(found)
+    piled.said.push(said_of(&found)?)?;
+    piled.found.push(answer_of(found))
+}
+
+/// Gives the answer for a source: one that was not read is answered as one whose read failed.
+fn answer_of(found: Result<Version, SourceFault>) -> Result<Version, KeyFault>
+    ensures { result ≡ answer_of found }
+{
+    match found {
+        Ok(version) => Ok(version),
+        Err(SourceFault::Key(fault)) => Err(fault),
+        Err(_) => Err(KeyFault::Read),
+    }
+}
+
+/// Copies the version that is said, where one is.
+fn said_of(found: &Result<Version, SourceFault>) -> Result<Option<Version>, Memory>
+    ensures { IfOk result (λ said. said ≡ said_of found.now) }
+{
+    match found {
+        Ok(version) => Ok(Some(version.copy()?)),
+        Err(_) => Ok(None),
+    }
 }
 
 /// Gives the name as lines show it: itself where it is UTF-8.

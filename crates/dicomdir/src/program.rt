@@ -36,7 +36,7 @@ use crate::names::{Names, names_of};
 use crate::publishing::run_publish;
 use crate::refusal::Paths;
 use crate::source_paths::{all_sources, bad_names_in, paths_or};
-use crate::staging::run_stage;
+use crate::staging::{Sources, run_stage};
 use crate::telling::{shows_hints, tell_empty, tell_refusal, tell_with_hints};
 use dd_elem::Write;
 use dd_file_set::Refusal;
@@ -57,36 +57,37 @@ struct Work<'a> {
 /// - 0 where the work is done or help was asked for
 /// - 1 where the run was refused or the output failed
 /// - 2 where the command line is at fault
-/// - 3 where `check` found something, or where `index --keep-going` passed a source that it could not read
+/// - 3 where `check` found something, where `index` or `stage` with `--keep-going` passed a source that it could not
+///   read, or where `publish` has one in a pile
 ///
-/// `index [--id ID] [--uid UID] [--max-bytes N] [--files0-from FILE] OUT SRC...` copies the images to their
-/// File IDs in the folder OUT and writes OUT/DICOMDIR. It prints `SKIP <path>: <fault>` for each source that
-/// has no version, and `DONE <n> instances, <size> bytes`. With `--keep-going` it skips a source that can't be opened
-/// or read, too. A refusal is one line on the error output, `FAULT
-/// <path>: <fault>`, with `-` where it concerns no path. A text about the command line is the parser's, with `?`
-/// for each control character of the words. What is printed to the error output may get lost.
+/// `index [--id ID] [--uid UID] [--max-bytes N] [--files0-from FILE] OUT SRC...` copies the images to their File IDs in
+/// the folder OUT and writes OUT/DICOMDIR. It prints `SKIP <path>: <fault>` for each source that has no version, and
+/// `DONE <n> instances, <size> bytes`. With `--keep-going` it skips a source that can't be opened or read, too. A
+/// refusal is one line on the error output, `FAULT <path>: <fault>`, with `-` where it concerns no path. A text about
+/// the command line is the parser's, with `?` for each control character of the words. What is printed to the error
+/// output may get lost.
 ///
-/// `merge [--id ID] [--uid UID] [--max-bytes N] [--files0-from FILE] OUT SET...` makes such a file-set of the
-/// images of other file-sets, each a folder with a DICOMDIR that this program wrote. All these are read before
-/// the first is examined, and the plan is made before the first image is copied.
+/// `merge [--id ID] [--uid UID] [--max-bytes N] [--files0-from FILE] OUT SET...` makes such a file-set of the images of
+/// other file-sets, each a folder with a DICOMDIR that this program wrote. All these are read before the first is
+/// examined, and the plan is made before the first image is copied.
 ///
-/// `withdraw [--id ID] [--uid UID] [--max-bytes N] OUT SET UID...` makes one as `merge OUT SET` does, with
-/// these instances withdrawn as well: the directory names them and lists no record of them, and a merge
-/// with it leaves them out.
+/// `withdraw [--id ID] [--uid UID] [--max-bytes N] OUT SET UID...` makes one as `merge OUT SET` does, with these
+/// instances withdrawn as well: the directory names them and lists no record of them, and a merge with it leaves them
+/// out.
 ///
 /// With `--strict` each of these is refused where it printed a line SKIP or NOTE, before anything is made. With
-/// `--dry-run` they stop before anything is made and print `PLAN <n> instances, <size> bytes`, to which `index` adds
-/// `, <total> bytes of images`. `--files0-from` reads further names from FILE, each ended by a zero byte. It does so
-/// after OUT is looked at and before any source is opened.
+/// `--dry-run` they stop before anything is made and print `PLAN <n> instances, <size> bytes`, to which `index` adds `,
+/// <total> bytes of images`. `--files0-from` reads further names from FILE, each ended by a zero byte. It does so after
+/// OUT is looked at and before any source is opened.
 ///
-/// A path that is empty is refused before any file is opened: OUT as a folder that is not made, any other
-/// as a file that is not there.
+/// A path that is empty is refused before any file is opened: OUT as a folder that is not made, any other as a file
+/// that is not there.
 ///
-/// `stage [--files0-from FILE] [--from FOLDER] PILE SRC...` copies each source's bytes to the new folder PILE, writes
-/// PILE/STAGED, which says of each what it is or what is wrong with it, and prints
-/// `DONE <n> sources, <s> skipped, <b> bytes of images`. `publish [--id ID] [--uid UID] [--max-bytes N] [--link]
-/// [--files0-from FILE] [--from FOLDER] OUT PILE...` makes and prints what `index` does of the sources of all these
-/// piles, in their order. FOLDER is where OUT, SRC and FILE are looked up; they are printed as given.
+/// `stage [--keep-going] [--files0-from FILE] [--from FOLDER] PILE SRC...` copies each source's bytes to the new folder
+/// PILE, writes PILE/STAGED, which says of each what it is or what is wrong with it, and prints `DONE <n> sources, <s>
+/// skipped, <b> bytes of images`. `publish [--id ID] [--uid UID] [--max-bytes N] [--link] [--files0-from FILE] [--from
+/// FOLDER] OUT PILE...` makes and prints what `index` does of the sources of all these piles, in their order. FOLDER is
+/// where OUT, SRC and FILE are looked up; they are printed as given.
 ///
 /// `check [--keys] [--strict] SET` compares the files of a file-set with its directory, which any program may have
 /// written. It prints what it finds, or `OK <n> records`. With `--keys` it also compares what image files say of
@@ -105,7 +106,8 @@ pub fn run<F: Files + Progress + Hints, O: Write, E: Write>(
     err: &mut E,
 ) -> u8
     ensures status { result ≤ 3 }
-    ensures findings { result ≡ 3 → IsCheck (line_of words.items) ⊎ HasKeepGoing (line_of words.items) }
+    ensures findings { result ≡ 3 → IsCheck (line_of words.items)
+        ⊎ HasKeepGoing (line_of words.items) ⊎ IsPublish (line_of words.items) }
     ensures line { result ≡ 2 → (files.new ≡ files.old) × (out.new ≡ out.old) }
 
     // The work of a line with a bad name or limit, or without sources, is never done.
@@ -131,8 +133,9 @@ pub fn run<F: Files + Progress + Hints, O: Write, E: Write>(
         (F.held files.old) (F.held files.new) }
 
     // Where they say that, the file-set that the words ask for stands in OUT: all images of its plan and its directory,
-    // at paths where no file stood. Each image is a file of the version that is planned there; only with `--link` may
-    // it have the bytes of the picked file, whatever these are. All other files are as they were.
+    // at paths where no file stood. Each image is a file of the version that is planned there, and that of a copy in a
+    // pile is wholly of the version that the list of the pile says; only with `--link` may it have the bytes of the
+    // picked file, whatever these are. All other files are as they were.
     ensures indexes { IsDone result → IsTaken words.items → IsIndex (line_of words.items)
         → ¬ HasDryRun (line_of words.items)
         → IndexesLine (line_of words.items) result (F.held files.old) (F.held files.new) }
@@ -142,14 +145,14 @@ pub fn run<F: Files + Progress + Hints, O: Write, E: Write>(
     ensures withdraws { result ≡ 0 → IsTaken words.items → IsWithdraw (line_of words.items)
         → ¬ HasDryRun (line_of words.items)
         → WithdrawsLine (line_of words.items) (F.held files.old) (F.held files.new) }
-
-    ensures publishes { result ≡ 0 → IsTaken words.items → IsPublish (line_of words.items)
+    ensures publishes { IsDone result → IsTaken words.items → IsPublish (line_of words.items)
         → ¬ HasDryRun (line_of words.items)
-        → PublishesLine (line_of words.items) (F.held files.old) (F.held files.new) }
+        → PublishesLine (line_of words.items) result (F.held files.old) (F.held files.new) }
 
     // Where they say that, the pile that the words ask for stands, with a list of its copies, and its sum was printed.
-    ensures stages { result ≡ 0 → IsTaken words.items → IsStage (line_of words.items)
-        → StagesLine O.Write (line_of words.items) (F.held files.old) (F.held files.new) out.old out.new }
+    ensures stages { IsDone result → IsTaken words.items → IsStage (line_of words.items)
+        → StagesLine O.Write (line_of words.items) result (F.held files.old) (F.held files.new)
+        out.old out.new }
 
     // Each has printed exactly its lines SKIP and NOTE on what was read, and then DONE or PLAN with the numbers of its
     // plan.
@@ -159,9 +162,8 @@ pub fn run<F: Files + Progress + Hints, O: Write, E: Write>(
         → MergeSays O.Write (line_of words.items) (F.held files.old) out.old out.new }
     ensures withdraw_says { result ≡ 0 → IsTaken words.items → IsWithdraw (line_of words.items)
         → WithdrawSays O.Write (line_of words.items) (F.held files.old) out.old out.new }
-
-    ensures publish_says { result ≡ 0 → IsTaken words.items → IsPublish (line_of words.items)
-        → PublishSays O.Write (line_of words.items) (F.held files.old) out.old out.new }
+    ensures publish_says { IsDone result → IsTaken words.items → IsPublish (line_of words.items)
+        → PublishSays O.Write (line_of words.items) result (F.held files.old) out.old out.new }
 
     // Where they say that, `list` has read the directory in the folder and sent its listing, and `check` has sent what
     // it found of each file, or that the directory can't be read.
@@ -214,8 +216,8 @@ fn run_request<F: Files + Progress + Hints, O: Write, E: Write>(
         (F.held files.old) out.old out.new }
     ensures printed { IsDone result → PrintsRequested F.In.Read O.Write request.now
         (F.held files.old) result (F.refusals files.old) (F.refusals files.new) out.old out.new }
-    ensures staged { result ≡ 0 → StagesRequested O.Write request.now (F.held files.old) (F.held files.new)
-        out.old out.new }
+    ensures staged { IsDone result → StagesRequested O.Write request.now result
+        (F.held files.old) (F.held files.new) out.old out.new }
 {
     let names = match names_of(alloc, request) {
         Ok(names) => names,
@@ -266,7 +268,7 @@ fn run_named<F: Files + Progress + Hints, O: Write, E: Write>(
         (F.held files.old) out.old out.new }
     ensures printed { IsDone result → PrintsRequested F.In.Read O.Write work.entry.request.now
         (F.held files.old) result (F.refusals files.old) (F.refusals files.new) out.old out.new }
-    ensures staged { result ≡ 0 → StagesRequested O.Write work.entry.request.now
+    ensures staged { IsDone result → StagesRequested O.Write work.entry.request.now result
         (F.held files.old) (F.held files.new) out.old out.new }
 {
     let request = work.request;
@@ -313,13 +315,13 @@ fn run_verb<F: Files + Progress + Hints, O: Write>(
 ) -> Result<u8, Refusal>
     requires least { length (read_of work.request.now) ≤ length sources.now }
     requires named { AreOfSources (words_of sources.now) work.bad_names.now }
+    requires none { keeps_going work.request.now ≡ false → work.bad_names.now ≡ [] }
     requires quiet { is_quiet work.request.now ≡ true → F.is_silent files.old }
     ensures refusal { IfErr result (IsOfWork (length sources.now)) }
     ensures due { IfErr result (λ refusal. IsDue F.In.Read (F.refusals files.new) (F.Write.failures files.new)
         (refuses_notes work.entry.request.now) refusal.fault) }
     ensures grounds { (names : List (List ℕ))
         → HavePaths names (words_of sources.now) work.entry.bad_names.now
-        → (keeps_going work.entry.request.now ≡ false → work.entry.bad_names.now ≡ [])
         → IfErr result (GroundsOf work.entry.request.now work.entry.names.now.choice
         work.entry.names.now.withdrawn.items names (F.held files.old) (F.held files.new)) }
     ensures failed { IfOk result (λ status. status ≡ 1 → HasFailed (O.failures out.old) (O.failures out.new)) }
@@ -332,7 +334,6 @@ fn run_verb<F: Files + Progress + Hints, O: Write>(
 
     ensures made { (names : List (List ℕ))
         → HavePaths names (words_of sources.now) work.entry.bad_names.now
-        → (keeps_going work.entry.request.now ≡ false → work.entry.bad_names.now ≡ [])
         → is_dry work.entry.request.now ≡ false → IfOk result (λ status. IsDone status
         → MakesOf work.entry.request.now work.entry.names.now.choice
         work.entry.names.now.withdrawn.items names status
@@ -340,7 +341,6 @@ fn run_verb<F: Files + Progress + Hints, O: Write>(
 
     ensures says { (names : List (List ℕ))
         → HavePaths names (words_of sources.now) work.entry.bad_names.now
-        → (keeps_going work.entry.request.now ≡ false → work.entry.bad_names.now ≡ [])
         → IfOk result (λ status. IsDone status → SaysOf O.Write work.entry.request.now
         work.entry.names.now.choice work.entry.names.now.withdrawn.items names status
         (F.held files.old) out.old out.new) }
@@ -350,8 +350,7 @@ fn run_verb<F: Files + Progress + Hints, O: Write>(
         (F.refusals files.old) (F.refusals files.new) out.old out.new) }
     ensures staged { (names : List (List ℕ))
         → HavePaths names (words_of sources.now) work.entry.bad_names.now
-        → (keeps_going work.entry.request.now ≡ false → work.entry.bad_names.now ≡ [])
-        → IfOk result (λ status. status ≡ 0 → StagesOf O.Write work.entry.request.now names
+        → IfOk result (λ status. IsDone status → StagesOf O.Write work.entry.request.now names status
         (F.held files.old) (F.held files.new) out.old out.new) }
 {
     let Work {
@@ -375,7 +374,13 @@ fn run_verb<F: Files + Progress + Hints, O: Write>(
             let making = Making::of(alloc, &withdraw.new_set, names, false, explains);
             run_withdraw(making, &withdraw.set, files, out)
         }
-        Request::Stage(stage) => run_stage(alloc, stage, sources, files, out),
+        Request::Stage(stage) => {
+            let sources = Sources {
+                names: sources,
+                bad_names,
+            };
+            run_stage(alloc, stage, sources, files, out)
+        }
         Request::Publish(publish) => {
             let folder = looked_up(alloc, from_of(request), publish.new_set.out.as_str())?;
             let making = Making::of(alloc, &publish.new_set, names, publish.link, explains);

@@ -1,5 +1,5 @@
 //! The command `publish`: makes a file-set of piles.
-ghost use Rattle.std.specs.Prelude.{◌≡◌, ◌<◌, ◌≤◌, ℕ, All, Bool, List, Err, IfErr, IfOk, Ok, Option};
+ghost use Rattle.std.specs.Prelude.{◌≡◌, ◌≢◌, ◌<◌, ◌≤◌, ◌⊎◌, ℕ, All, Bool, List, Err, IfErr, IfOk, Ok, Option};
 ghost use Rattle.std.specs.Prelude.{false, length, true};
 ghost use Rattle.dd_elem.specs.Device.{HasFailed};
 ghost use Rattle.dd_engine.specs.Found.{HasFound};
@@ -19,13 +19,14 @@ ghost use Rattle.dd_file_set.specs.Refusal.{IsOfWork};
 ghost use Rattle.dicomdir.specs.Reasons.{IsDue, IsOfEngine};
 ghost use Rattle.dicomdir.specs.Grounds.{GroundsOfPiles, PilesHaveNoPlan};
 
-use crate::dates::show_dates;
-use crate::index::{is_noted, tell_noted};
+use crate::dates::keep_dates;
+use crate::index::{is_noted, status_past, tell_noted};
 use crate::making::{Making, make_file_set, tell_plan_of_images};
 use crate::note_lines::{refuse_noted, tell_conflict};
 use crate::origins::PileFiles;
 use crate::piles::{Piled, Place, read_piles};
 use crate::sum::{Sum, show_sum};
+use crate::unread::{BadNames, UnreadStaged};
 use dd_elem::Write;
 use dd_engine::{EngineFault, FoundSources, NotedFault, PastFailures, publish_engine};
 use dd_file_set::{FileSet, ProgramFault, Refusal};
@@ -34,7 +35,7 @@ use dd_json::Style;
 use dd_layout::Limits;
 
 /// Runs `publish`: reads the lists of all these piles, prints what is skipped and what is noted, and makes the file-set
-/// of their images, or prints what would be made.
+/// of their images, or prints what would be made. The status is 3 where one of their sources was not read.
 pub(crate) fn run_publish<F: Files + Progress + Hints, O: Write>(
     making: Making<'_>,
     piles: &[String],
@@ -48,20 +49,20 @@ pub(crate) fn run_publish<F: Files + Progress + Hints, O: Write>(
         (words_of piles.now) making.entry.link (F.held files.old) (F.held files.new)
         refusal.subject refusal.fault) }
     ensures failed { IfOk result (λ status. status ≡ 1 → HasFailed (O.failures out.old) (O.failures out.new)) }
-    ensures status { IfOk result (λ status. status ≤ 1) }
+    ensures status { IfOk result (λ status. (status ≤ 1) ⊎ (status ≡ 3)) }
     ensures dry { making.entry.dry_run ≡ true → F.held files.new ≡ F.held files.old }
     ensures last { IfSaid (MakesDirectoryLast making.entry.folder.now) (F.held files.old) (F.held files.new) }
     ensures made { making.entry.dry_run ≡ false
         → DonePublishes result making.entry.names.now.choice making.entry.max_bytes
         (words_of piles.now) (making.entry.link ≡ true) making.entry.folder.now
         (F.held files.old) (F.held files.new) }
-    ensures printed { IfOk result (λ status. status ≡ 0 → PrintsPublish O.Write making.entry.style
+    ensures printed { IfOk result (λ status. status ≢ 1 → PrintsPublish O.Write making.entry.style
         making.entry.dry_run making.entry.strict making.entry.names.now.choice making.entry.max_bytes
-        (words_of piles.now) (F.held files.old) out.old out.new) }
+        (words_of piles.now) status (F.held files.old) out.old out.new) }
 {
     let mut sum = Sum::new();
     let done = publish_piles(making, piles, &mut sum, files, out);
-    if making.explains && matches!(done, Ok(0)) {
+    if making.explains && matches!(done, Ok(0 | 3)) {
         show_sum(&sum, making.style, files);
     }
     done
@@ -83,36 +84,40 @@ fn publish_piles<F: Files + Progress + Hints, O: Write>(
         (words_of piles.now) making.entry.link (F.held files.old) (F.held files.new)
         refusal.subject refusal.fault) }
     ensures failed { IfOk result (λ status. status ≡ 1 → HasFailed (O.failures out.old) (O.failures out.new)) }
-    ensures status { IfOk result (λ status. status ≤ 1) }
+    ensures status { IfOk result (λ status. (status ≤ 1) ⊎ (status ≡ 3)) }
     ensures dry { making.entry.dry_run ≡ true → F.held files.new ≡ F.held files.old }
     ensures last { IfSaid (MakesDirectoryLast making.entry.folder.now) (F.held files.old) (F.held files.new) }
     ensures made { making.entry.dry_run ≡ false
         → DonePublishes result making.entry.names.now.choice making.entry.max_bytes
         (words_of piles.now) (making.entry.link ≡ true) making.entry.folder.now
         (F.held files.old) (F.held files.new) }
-    ensures printed { IfOk result (λ status. status ≡ 0 → PrintsPublish O.Write making.entry.style
+    ensures printed { IfOk result (λ status. status ≢ 1 → PrintsPublish O.Write making.entry.style
         making.entry.dry_run making.entry.strict making.entry.names.now.choice making.entry.max_bytes
-        (words_of piles.now) (F.held files.old) out.old out.new) }
+        (words_of piles.now) status (F.held files.old) out.old out.new) }
 {
     let Piled {
         names,
         places,
+        said,
+        unread: UnreadStaged { absent, bad_names },
         found,
     } = read_piles(making.alloc, piles, files)?;
-    let past = match past_of(making, found) {
+    let past = match past_of(making, found, absent) {
         Ok(past) => past,
         Err(fault) => return Err(refuse(&names, &fault, making.style, out)),
     };
-    if tell_noted(&past, &names, &[], making.style, out).is_err() {
+    let bad_names = BadNames::Staged(&bad_names);
+    if tell_noted(&past, &names, bad_names, making.style, out).is_err() {
         return Ok(1);
     }
-    *sum = Sum::of(&past.noted, names.len());
+    *sum = Sum::of(&past, bad_names, names.len());
     refuse_noted(making.strict, is_noted(&past.noted))?;
     let indexed = &past.noted.indexed;
-    show_dates(making.explains_in_words(), &indexed.plan, files);
+    keep_dates(making.explains_in_words(), &indexed.plan, files);
     if making.dry_run {
         let images = bytes_of(&indexed.picks, &places);
-        return Ok(tell_plan_of_images(&indexed.plan, images, making.style, out));
+        let status = tell_plan_of_images(&indexed.plan, images, making.style, out);
+        return Ok(status_past(status, &indexed.skipped));
     }
     let set = FileSet {
         folder: making.folder,
@@ -120,17 +125,20 @@ fn publish_piles<F: Files + Progress + Hints, O: Write>(
         origins: &PileFiles {
             folders: piles,
             places: &places,
+            said: &said,
             link: making.link,
         },
         picks: &indexed.picks,
     };
-    make_file_set(making.alloc, &set, making.style, files, out)
+    let status = make_file_set(making.alloc, &set, making.style, files, out)?;
+    Ok(status_past(status, &indexed.skipped))
 }
 
 /// Plans the file-set of what was found of the sources, all of which were read.
 fn past_of(
     making: Making<'_>,
     found: FoundSources,
+    absent: Vec<usize>,
 ) -> Result<PastFailures, NotedFault<EngineFault, usize>>
     ensures notes { (answers : List Answer) → HasFound answers found
         → IfOk result (λ past. NotesIndex making.entry.names.now.choice (limits_of making.entry.max_bytes) answers
@@ -148,10 +156,7 @@ fn past_of(
     let limits = Limits::of_bytes(making.max_bytes);
     let Making { alloc, names, .. } = making;
     let noted = publish_engine(alloc, found, &names.choice, limits)?;
-    Ok(PastFailures {
-        noted,
-        absent: Vec::new(alloc),
-    })
+    Ok(PastFailures { noted, absent })
 }
 
 /// Gives the bytes of the copies at these numbers, up to `u64::MAX`.

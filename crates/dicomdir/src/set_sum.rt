@@ -61,10 +61,11 @@ impl SetSum {
     }
 }
 
-/// Shows what became of the images.
+/// Shows what was kept, and what became of the images.
 pub(crate) fn show_set_sum<F: Files + Hints>(sum: &SetSum, style: Style, files: &mut F)
     ensures kept { F.held files.new ≡ F.held files.old }
 {
+    files.show_kept();
     match style {
         Style::Text => show_counts(sum, files),
         Style::Json => show_counts_json(sum, files),

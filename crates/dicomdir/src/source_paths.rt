@@ -62,8 +62,18 @@ pub(crate) fn all_sources<F: Files>(
     match request {
         Request::Index(index) => { listed_sources(alloc, &index.sources, index.keep_going, files) }
         Request::Merge(merge) => listed_sources(alloc, &merge.sets, false, files),
-        Request::Stage(stage) => listed_in(alloc, from_of(request), &stage.sources, files),
-        Request::Publish(publish) => listed_in(alloc, from_of(request), &publish.piles, files),
+        Request::Stage(stage) => {
+            listed_in(
+                alloc,
+                from_of(request),
+                &stage.sources,
+                stage.keep_going,
+                files,
+            )
+        }
+        Request::Publish(publish) => {
+            listed_in(alloc, from_of(request), &publish.piles, false, files)
+        }
         Request::Withdraw(_) => Ok(None),
         Request::Check(_) => Ok(None),
         Request::List(_) => Ok(None),
@@ -97,14 +107,15 @@ fn listed_in<F: Files>(
     alloc: Global,
     from: &str,
     sources: &Sources,
+    keep_going: bool,
     files: &mut F,
 ) -> Result<Option<AllSources>, Refusal>
     ensures refusal { (paths : ℕ) → IfErr result (IsOfWork paths) }
     ensures due { (r : Request) → list_of r
         ≡ option_map (λ list. looked_up_list from.now (string_bytes list)) sources.now.files0_from
-        → keeps_going r ≡ false → IfErr result (λ refusal.
+        → keeps_going r ≡ keep_going → IfErr result (λ refusal.
         IsDueToList F.In.Read (F.refusals files.new) r (F.held files.old) refusal.fault) }
-    ensures listed { IfOk result (λ listed. FindsSources false
+    ensures listed { IfOk result (λ listed. FindsSources keep_going
         (option_map (λ list. looked_up_list from.now (string_bytes list)) sources.now.files0_from)
         (words_of sources.now.words.items) (F.held files.old)
         (words_of (option_map_or (λ all. all.paths.items) listed sources.now.words.items))
@@ -118,7 +129,7 @@ fn listed_in<F: Files>(
     };
     let path = looked_up_list(alloc, from, list.as_str())?;
     let bytes = list_bytes(alloc, path.as_str(), files)?;
-    let all = with_listed(alloc, sources.words.as_slice(), &bytes, false)?;
+    let all = with_listed(alloc, sources.words.as_slice(), &bytes, keep_going)?;
     Ok(Some(all))
 }
 

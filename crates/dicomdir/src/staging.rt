@@ -1,6 +1,6 @@
 //! The command `stage`: makes a pile of sources.
-ghost use Rattle.std.specs.Prelude.{◌≡◌, ◌<◌, ◌≤◌, ◌⊎◌, ℕ, List, Err, IfErr, IfOk, IsErr, IsOk, OnOk, false, length};
-ghost use Rattle.std.specs.Prelude.{map, string_bytes};
+ghost use Rattle.std.specs.Prelude.{◌≡◌, ◌≢◌, ◌<◌, ◌≤◌, ◌⊎◌, ℕ, List, [], Err, IfErr, IfOk, IsErr, IsOk, OnOk, Some};
+ghost use Rattle.std.specs.Prelude.{false, length, map, slice_get, string_bytes, true};
 ghost use Rattle.dd_elem.specs.Device.{HasFailed};
 ghost use Rattle.dd_files.specs.Keeping.{IfSaid};
 ghost use Rattle.dd_line.specs.Line.{words_of};
@@ -11,9 +11,14 @@ ghost use Rattle.dicomdir.specs.Inspecting.{style_by};
 ghost use Rattle.dicomdir.specs.Last.{StagesListLast};
 ghost use Rattle.dd_file_set.specs.Refusal.{IsOfWork};
 ghost use Rattle.dicomdir.specs.Reasons.{IsDue};
-ghost use Rattle.dicomdir.specs.Stages.{MakesNamed, Stages, fault_of, staged_text, staged_words};
+ghost use Rattle.dicomdir.specs.FileSupply.{is_one};
+ghost use Rattle.dicomdir.specs.Indexes.{IsIndexStatus};
+ghost use Rattle.dicomdir.specs.ListedNames.{AreRising, HavePaths};
+ghost use Rattle.dd_pile.specs.declared.source.StageSource.{StageSource};
+ghost use Rattle.dicomdir.specs.Stages.{MakesNamed, Stages, fault_of, staged_text, staged_words, status_staged};
 ghost use Rattle.dicomdir.specs.Grounds.{GroundsOfStage, HasNoList};
 
+use crate::file_supply::contains;
 use crate::inspecting::style_for;
 use crate::line_paths::looked_up;
 use crate::making::status_of;
@@ -30,54 +35,90 @@ use itoa::Buffer;
 use std::alloc::Global;
 use std::fmt;
 
-/// Runs `stage`: copies each source to the pile and lists it, and prints how many there are.
+/// The sources of a pile.
+#[derive(Clone, Copy)]
+pub(crate) struct Sources<'a> {
+    /// Their names. One that is not UTF-8 stands there as lines show it.
+    pub(crate) names: &'a [String],
+    /// The numbers of these, in rising order.
+    pub(crate) bad_names: &'a [usize],
+}
+
+/// Runs `stage`: copies each source to the pile and lists it, and prints how many there are. 3 where it keeps going and
+/// one was not read.
 pub(crate) fn run_stage<F: Files + Progress, O: Write>(
     alloc: Global,
     stage: &StageRequest,
-    names: &[String],
+    sources: Sources<'_>,
     files: &mut F,
     out: &mut O,
 ) -> Result<u8, Refusal>
-    ensures refusal { IfErr result (IsOfWork (length names.now)) }
+    requires { AreRising sources.bad_names.now }
+    ensures refusal { IfErr result (IsOfWork (length sources.entry.names.now)) }
     ensures due { IfErr result (λ refusal. IsDue F.In.Read (F.refusals files.new) (F.Write.failures files.new)
         false refusal.fault) }
-    ensures grounds { IfErr result (λ refusal. GroundsOfStage (from_text stage.now.from) (string_bytes stage.now.pile)
-        (words_of names.now) (F.held files.old) (F.held files.new) refusal.fault) }
+    ensures grounds { (names : List (List ℕ))
+        → HavePaths names (words_of sources.entry.names.now) sources.entry.bad_names.now
+        → IfErr result (λ refusal. GroundsOfStage (from_text stage.now.from) (string_bytes stage.now.pile)
+        names (F.held files.old) (F.held files.new) refusal.fault) }
     ensures failed { IfOk result (λ status. status ≡ 1 → HasFailed (O.failures out.old) (O.failures out.new)) }
-    ensures status { IfOk result (λ status. status ≤ 1) }
+    ensures status { sources.entry.bad_names.now ≡ [] ⊎ (stage.now.keep_going ≡ true)
+        → IfOk result (IsIndexStatus stage.now.keep_going) }
     ensures last { IfSaid (StagesListLast (string_bytes stage.now.pile)) (F.held files.old) (F.held files.new) }
-    ensures staged { IfOk result (λ status. status ≡ 0 → Stages O.Write (style_by stage.now.json)
-        (from_text stage.now.from) (string_bytes stage.now.pile) (words_of names.now)
+    ensures staged { (names : List (List ℕ))
+        → HavePaths names (words_of sources.entry.names.now) sources.entry.bad_names.now
+        → (stage.now.keep_going ≡ false → sources.entry.bad_names.now ≡ [])
+        → IfOk result (λ status. status ≢ 1 → Stages O.Write (style_by stage.now.json) stage.now.keep_going
+        (from_text stage.now.from) (string_bytes stage.now.pile) names status
         (F.held files.old) (F.held files.new) out.old out.new) }
 {
-    match stage_named(alloc, stage, names, files) {
-        Ok(sum) => Ok(tell_staged(&sum, style_for(stage.json), out)),
+    match stage_named(alloc, stage, sources, files) {
+        Ok(sum) => Ok(status_past(tell_staged(&sum, style_for(stage.json), out), &sum)),
         Err(refusal) => Err(refusal_of(refusal)),
     }
 }
 
-/// Makes the pile of the sources with these names.
+/// Gives the status of a run with this sum, where its output has this status.
+fn status_past(status: u8, sum: &StageSum) -> u8
+    ensures { result ≡ status_staged status sum.now }
+{
+    match status {
+        0 if sum.unread != 0 => 3,
+        status => status,
+    }
+}
+
+/// Makes the pile of these sources.
 #[tactic(auto, using(crate::proofs::MadeLast::same_list))]
 fn stage_named<F: Files + Progress>(
     alloc: Global,
     stage: &StageRequest,
-    names: &[String],
+    sources: Sources<'_>,
     files: &mut F,
 ) -> Result<StageSum, StageRefusal>
-    ensures refusal { IfErr result (Names (λ at. at < length names.now)) }
+    requires { AreRising sources.bad_names.now }
+    ensures refusal { IfErr result (Names (λ at. at < length sources.entry.names.now)) }
     ensures due { IfErr result (IsDueTo F.In.Read (F.refusals files.new) (F.Write.failures files.new)) }
     ensures last { IfSaid (StagesListLast (string_bytes stage.now.pile)) (F.held files.old) (F.held files.new) }
-    ensures made { IfOk result (λ sum. MakesNamed (from_text stage.now.from)
-        (string_bytes stage.now.pile) (words_of names.now) sum (F.held files.old) (F.held files.new)) }
-    ensures large { result ≡ Err StageRefusal.ListTooLarge → HasNoList (from_text stage.now.from)
-        (string_bytes stage.now.pile) (words_of names.now) (F.held files.old) (F.held files.new) }
+    ensures made { (names : List (List ℕ))
+        → HavePaths names (words_of sources.entry.names.now) sources.entry.bad_names.now
+        → (stage.now.keep_going ≡ false → sources.entry.bad_names.now ≡ [])
+        → IfOk result (λ sum. MakesNamed stage.now.keep_going (from_text stage.now.from)
+        (string_bytes stage.now.pile) names sum (F.held files.old) (F.held files.new)) }
+    ensures large { (names : List (List ℕ))
+        → HavePaths names (words_of sources.entry.names.now) sources.entry.bad_names.now
+        → result ≡ Err StageRefusal.ListTooLarge → HasNoList (from_text stage.now.from)
+        (string_bytes stage.now.pile) names (F.held files.old) (F.held files.new) }
 {
-    let pile = stage.pile.as_str();
+    let pile = PileOf {
+        path: stage.pile.as_str(),
+        keeps_going: stage.keep_going,
+    };
     match &stage.from {
-        None => stage_at(alloc, pile, names, names, files),
+        None => stage_at(alloc, pile, sources.names, sources, files),
         Some(from) => {
-            let paths = all_looked_up(alloc, from.as_str(), names)?;
-            stage_at(alloc, pile, &paths, names, files)
+            let paths = all_looked_up(alloc, from.as_str(), sources.names)?;
+            stage_at(alloc, pile, &paths, sources, files)
         }
     }
 }
@@ -95,50 +136,67 @@ fn all_looked_up(alloc: Global, from: &str, names: &[String]) -> Result<Vec<Stri
     Ok(paths)
 }
 
+/// The pile that a line asks for.
+#[derive(Clone, Copy)]
+struct PileOf<'a> {
+    path: &'a str,
+    keeps_going: bool,
+}
+
 /// Makes the pile of the sources at these paths.
 #[tactic(auto, using(crate::proofs::MadeLast::same_list, crate::proofs::MadeLast::list_cuts))]
 fn stage_at<F: Files + Progress>(
     alloc: Global,
-    pile: &str,
+    pile: PileOf<'_>,
     paths: &[String],
-    names: &[String],
+    sources: Sources<'_>,
     files: &mut F,
 ) -> Result<StageSum, StageRefusal>
-    requires { length paths.now ≡ length names.now }
-    ensures refusal { IfErr result (Names (λ at. at < length names.now)) }
+    requires count { length paths.now ≡ length sources.names.now }
+    requires rising { AreRising sources.bad_names.now }
+    ensures refusal { IfErr result (Names (λ at. at < length sources.entry.names.now)) }
     ensures due { IfErr result (IsDueTo F.In.Read (F.refusals files.new) (F.Write.failures files.new)) }
-    ensures last { IfSaid (StagesListLast pile.now) (F.held files.old) (F.held files.new) }
-    ensures made { (from : List ℕ) → words_of paths.now ≡ map (looked_up from) (words_of names.now)
-        → IfOk result (λ sum. MakesNamed from pile.now (words_of names.now) sum
+    ensures last { IfSaid (StagesListLast pile.entry.path.now) (F.held files.old) (F.held files.new) }
+    ensures made { (from : List ℕ) (names : List (List ℕ))
+        → words_of paths.now ≡ map (looked_up from) (words_of sources.entry.names.now)
+        → HavePaths names (words_of sources.entry.names.now) sources.entry.bad_names.now
+        → (pile.entry.keeps_going ≡ false → sources.entry.bad_names.now ≡ [])
+        → IfOk result (λ sum. MakesNamed pile.entry.keeps_going from pile.entry.path.now names sum
         (F.held files.old) (F.held files.new)) }
-    ensures large { (from : List ℕ) → words_of paths.now ≡ map (looked_up from) (words_of names.now)
+    ensures large { (from : List ℕ) (names : List (List ℕ))
+        → words_of paths.now ≡ map (looked_up from) (words_of sources.entry.names.now)
+        → HavePaths names (words_of sources.entry.names.now) sources.entry.bad_names.now
         → result ≡ Err StageRefusal.ListTooLarge
-        → HasNoList from pile.now (words_of names.now) (F.held files.old) (F.held files.new) }
+        → HasNoList from pile.entry.path.now names (F.held files.old) (F.held files.new) }
 {
-    let sources = sources_at(alloc, paths, names)?;
-    stage_sources(alloc, pile, &sources, files)
+    let staged = sources_at(alloc, paths, sources)?;
+    stage_sources(alloc, pile.path, &staged, pile.keeps_going, files)
 }
 
 fn sources_at<'a>(
     alloc: Global,
     paths: &'a [String],
-    names: &'a [String],
+    sources: Sources<'a>,
 ) -> Result<Vec<StageSource<'a>>, Memory>
-    requires { length paths.now ≡ length names.now }
-    ensures paths { IfOk result (λ sources.
-        map (λ source. source.path.now) sources.items ≡ words_of paths.now) }
-    ensures names { IfOk result (λ sources.
-        map (λ source. source.name.now) sources.items ≡ words_of names.now) }
-    ensures count { IfOk result (λ sources. length sources.items ≡ length names.now) }
+    requires count { length paths.now ≡ length sources.names.now }
+    requires rising { AreRising sources.bad_names.now }
+    ensures paths { IfOk result (λ staged.
+        map (λ source. source.path.now) staged.items ≡ words_of paths.now) }
+    ensures names { IfOk result (λ staged.
+        map (λ source. source.name.now) staged.items ≡ words_of sources.entry.names.now) }
+    ensures bad { IfOk result (λ staged. (at : ℕ) (source : StageSource) → slice_get staged.items at ≡ Some source
+        → source.is_bad_name ≡ is_one sources.entry.bad_names.now at) }
+    ensures count { IfOk result (λ staged. length staged.items ≡ length sources.entry.names.now) }
 {
-    let mut sources = Vec::with_capacity(alloc, names.len())?;
-    for (at, name) in names.iter().enumerate() {
-        sources.push(StageSource {
+    let mut staged = Vec::with_capacity(alloc, sources.names.len())?;
+    for (at, name) in sources.names.iter().enumerate() {
+        staged.push(StageSource {
             path: paths[at].as_str(),
             name: name.as_bytes(),
+            is_bad_name: contains(sources.bad_names, at),
         })?;
     }
-    Ok(sources)
+    Ok(staged)
 }
 
 /// Gives the refusal of a pile that was not made.

@@ -6,7 +6,9 @@ ghost use Rattle.dd_engine.specs.declared.choice.Choice.{Choice};
 ghost use Rattle.dd_layout.specs.Limits.{Limits};
 ghost use Rattle.dicomdir.specs.Sum.{AddsUp, CountsSources};
 
-use dd_engine::NotedIndex;
+use crate::unread::{BadNames, Unread};
+use dd_engine::PastFailures;
+use dd_file_set::ProgramFault;
 use dd_files::{Files, Hints};
 use dd_json::Style;
 use dd_keys::KeyFault;
@@ -22,9 +24,12 @@ const FIRST_STEPS: [&str; ROWS] = [
     "36: mend it where it was made: this key has to be a value",
     "37: dcmconv IN OUT writes such a file anew",
     "39: a file-set has no file of more than 4294967295 bytes",
+    "92: is the name right, and may you read it? ls -lb shows it",
+    "93: try to copy it by cp: mend the disc where that fails too",
+    "99: give the file a name that is UTF-8",
 ];
 
-const ROWS: usize = 8;
+const ROWS: usize = 11;
 
 /// The most first steps that are shown.
 const MOST: usize = 5;
@@ -57,12 +62,13 @@ impl Sum {
         }
     }
 
-    pub(crate) fn of(noted: &NotedIndex, sources: usize) -> Sum
-        ensures counts { CountsSources noted.now sources result }
+    pub(crate) fn of(past: &PastFailures, bad_names: BadNames<'_>, sources: usize) -> Sum
+        ensures counts { CountsSources past.now.noted sources result }
         ensures adds { (choice : Choice) (limits : Limits) (answers : List Answer)
-            → length answers ≡ sources → NotesIndex choice limits answers (Ok noted.now)
+            → length answers ≡ sources → NotesIndex choice limits answers (Ok past.now.noted)
             → AddsUp result }
     {
+        let noted = &past.noted;
         let kept = noted.indexed.plan.versions().len();
         let skipped = noted.indexed.skipped.len();
         let left_out = noted.notes.left_out.len();
@@ -73,22 +79,36 @@ impl Sum {
             skipped,
             left_out,
             repeated: others.saturating_sub(left_out),
-            rows: rows_of(&noted.indexed.skipped),
+            rows: rows_of(&noted.indexed.skipped, Unread::of(past, bad_names)),
         }
     }
 }
 
-fn rows_of(skipped: &[(usize, KeyFault)]) -> [bool; ROWS] {
+fn rows_of(skipped: &[(usize, KeyFault)], unread: Unread<'_>) -> [bool; ROWS] {
     let mut rows = [false; ROWS];
-    for (_, fault) in skipped {
-        if let Some(row) = rows.get_mut(row_of(fault)) {
+    for (at, fault) in skipped {
+        let row = match fault {
+            KeyFault::Read => row_of_unread(&unread.fault_of(*at)),
+            fault => row_of(fault),
+        };
+        if let Some(row) = rows.get_mut(row) {
             *row = true;
         }
     }
     rows
 }
 
-/// Gives the row of the fault among the first steps. A source is not skipped for the last two faults.
+/// Gives the row of a source that was not read.
+fn row_of_unread(fault: &ProgramFault) -> usize {
+    match fault {
+        ProgramFault::Absent => 8,
+        ProgramFault::Unread => 9,
+        ProgramFault::BadName(_) => 10,
+        _ => ROWS,
+    }
+}
+
+/// Gives the row of the fault among the first steps. A source that was read is not skipped for the last two faults.
 fn row_of(fault: &KeyFault) -> usize {
     match fault {
         KeyFault::File(_) => 0,
@@ -103,10 +123,11 @@ fn row_of(fault: &KeyFault) -> usize {
     }
 }
 
-/// Shows what became of the sources, and in words also what to do about those that were skipped.
+/// Shows what was kept, and what became of the sources, and in words also what to do about those that were skipped.
 pub(crate) fn show_sum<F: Files + Hints>(sum: &Sum, style: Style, files: &mut F)
     ensures kept { F.held files.new ≡ F.held files.old }
 {
+    files.show_kept();
     match style {
         Style::Text => {
             show_first_steps(&sum.rows, files);

@@ -52,7 +52,7 @@ pub(crate) fn tell_with_hints<F: Hints, E: Write>(
     status
 }
 
-/// Erases the line of progress, prints why the work was refused, and answers the status.
+/// Erases the line of progress, prints why the work was refused, shows what was kept, and answers the status.
 pub(crate) fn tell_refusal<F: Files + Progress + Hints, E: Write>(
     refusal: &Refusal,
     request: &Request,
@@ -75,7 +75,9 @@ pub(crate) fn tell_refusal<F: Files + Progress + Hints, E: Write>(
         list: list_of(request),
         unstored: as_given(request, files.unstored()),
     };
-    tell_with_hints(refusal, request, paths, files, err)
+    let status = tell_with_hints(refusal, request, paths, files, err);
+    files.show_kept();
+    status
 }
 
 pub(crate) fn tell_empty<F: Hints, E: Write>(

@@ -7,5 +7,7 @@ mod making;
 mod reading;
 
 pub use checking::dicomdir_findings;
-pub use making::{dicomdir_merge, dicomdir_of_image, dicomdir_withdraw};
-pub use reading::{dicomdir_front, dicomdir_interface, dicomdir_list, dicomdir_rows};
+pub use making::{dicomdir_merge, dicomdir_notes, dicomdir_of_image, dicomdir_withdraw};
+pub use reading::{
+    dicomdir_front, dicomdir_interface, dicomdir_list, dicomdir_rows, dicomdir_spellings,
+};

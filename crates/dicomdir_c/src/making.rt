@@ -6,8 +6,10 @@ ghost use Rattle.dd_elem.specs.Uid.{IsUid};
 ghost use Rattle.dd_making.specs.Cuts.{AreEnds, cuts};
 ghost use Rattle.dd_making.specs.Images.{IsGiven, IsLonger, IsRefused};
 ghost use Rattle.dd_making.specs.Merges.{GivesMade, IsRefusedMerge, IsRefusedWithdrawal, LacksRoom, rooms};
+ghost use Rattle.dd_making.specs.Noted.{GivesNotes, LacksNoteRoom, note_rooms};
 
 use dd_calls::Answer;
+use dd_making::{NoteRow, Sum};
 use std::alloc::Global;
 
 /// Gives the directory of the image file `bytes`.
@@ -54,6 +56,36 @@ pub extern "C" fn dicomdir_merge(
 {
     dd_making::merge(
         alloc, bytes, ends, id, uid, text, sets, file_ends, files, answer,
+    )
+}
+
+/// Gives what such a merge notes of its images, and counts these.
+#[unsafe(no_mangle)]
+pub extern "C" fn dicomdir_notes(
+    alloc: Global,
+    bytes: &[u8],
+    ends: &[u64],
+    id: &[u8],
+    uid: &[u8],
+    rows: &mut [NoteRow],
+    text_ends: &mut [u64],
+    text: &mut [u8],
+    sum: &mut Sum,
+    answer: &mut Answer,
+) -> u32
+    ensures given { result ≡ 0 → GivesNotes id.now uid.now (cuts 0 bytes.now ends.now)
+        (note_rooms rows.old text_ends.old text.old sum.old)
+        (note_rooms rows.new text_ends.new text.new sum.new) answer.new }
+    ensures room { result ≡ 1 → LacksNoteRoom id.now uid.now (cuts 0 bytes.now ends.now)
+        (note_rooms rows.old text_ends.old text.old sum.old) answer.new }
+    ensures ends { result < 2 → AreEnds 0 bytes.now ends.now }
+    ensures refused { 1 < result → IsRefusedMerge id.now uid.now bytes.now ends.now answer.new }
+    ensures status { 1 < result → result ≡ answer.new.fault }
+    ensures same { result ≢ 0 → note_rooms rows.new text_ends.new text.new sum.new
+        ≡ note_rooms rows.old text_ends.old text.old sum.old }
+{
+    dd_making::notes(
+        alloc, bytes, ends, id, uid, rows, text_ends, text, sum, answer,
     )
 }
 

@@ -4,12 +4,14 @@ ghost use Rattle.std.specs.Prelude.{◌≡◌, ◌≢◌, length};
 ghost use Rattle.dd_calls.specs.Answers.{IsListed, IsLonger, IsRefused};
 ghost use Rattle.dd_calls.specs.Beside.{IsGivenBeside, IsWiderBeside};
 ghost use Rattle.dd_calls.specs.Rows.{AreGiven, AreWider};
+ghost use Rattle.dd_calls.specs.Sizes.{by_number};
+ghost use Rattle.dd_calls.specs.Spelled.{AreGivenNames, AreLongerNames};
 
 use dd_calls::{Answer, Row};
 use std::alloc::Global;
 
-/// Changes where a function is gone or does something else.
-const INTERFACE: u32 = 1;
+/// Rises where a function comes, and changes where one is gone or does something else.
+const INTERFACE: u32 = 2;
 
 /// Gives the number of this interface.
 #[unsafe(no_mangle)]
@@ -79,4 +81,22 @@ pub extern "C" fn dicomdir_front(
     ensures same_count { result ≢ 0 → unreached.new ≡ unreached.old }
 {
     dd_calls::front(alloc, bytes, ends, text, unreached, answer)
+}
+
+/// Gives the names under which a system may show `name`, a part of a File ID.
+#[unsafe(no_mangle)]
+pub extern "C" fn dicomdir_spellings(
+    alloc: Global,
+    name: &[u8],
+    ends: &mut [u64],
+    text: &mut [u8],
+    answer: &mut Answer,
+) -> u32
+    ensures given { result ≡ 0 → AreGivenNames name.now ends.old text.old ends.new text.new answer.new }
+    ensures longer { result ≡ 1 → AreLongerNames name.now (length ends.old) (length text.old) answer.new }
+    ensures refused { result ≢ 0 → result ≢ 1 → (result ≡ 91) × (answer.new ≡ by_number 91) }
+    ensures same_ends { result ≢ 0 → ends.new ≡ ends.old }
+    ensures same_text { result ≢ 0 → text.new ≡ text.old }
+{
+    dd_calls::spellings(alloc, name, ends, text, answer)
 }

@@ -1,5 +1,5 @@
 -- The folder that a path stands in.
-use Rattle.std.specs.Prelude.{◌≡◌, ◌≢◌, ◌<◌, ◌≤◌, ◌-◌, ℕ, List, codes, length, slice_index, take}
+use Rattle.std.specs.Prelude.{◌≡◌, ◌≢◌, ◌<◌, ◌≤◌, ◌-◌, ℕ, List, [], codes, length, slice_index, take}
 
 -- from one place to another stand slashes alone
 abbrev pub AreSlashes : List ℕ → ℕ → ℕ → Type 0
@@ -24,3 +24,13 @@ pub record IsFolderOf (path folder : List ℕ) : Type 0 where
   pub current : start ≡ 0 → folder ≡ codes "."
   pub root : 0 < start → base ≡ 0 → folder ≡ codes "/"
   pub below : 0 < base → folder ≡ take base path
+
+-- The path of a folder without the slashes after it, which stand from `end` on: `.` where the path is empty, and `/`
+-- where it has slashes alone.
+pub record IsBare (path folder : List ℕ) : Type 0 where
+  pub end : ℕ
+  pub behind : AreSlashes path end (length path)
+  pub whole : 0 < end → slice_index path (end - 1) ≢ 47
+  pub current : path ≡ [] → folder ≡ codes "."
+  pub root : path ≢ [] → end ≡ 0 → folder ≡ codes "/"
+  pub named : 0 < end → folder ≡ take end path

@@ -1,5 +1,5 @@
 pub mod Directory
 pub mod Folders
+pub mod Paths
 pub mod ProgressLine
-pub mod Spellings
 pub mod Storing

@@ -3,9 +3,10 @@ ghost use Rattle.std.specs.Prelude.{◌≡◌, ℕ, None, refl};
 
 use crate::again::{Links, is_folder, look};
 use crate::counted::{Counted, write_again};
-use crate::host_files::HostFiles;
+use crate::host_files::{HostFiles, KeptLines};
 use crate::noted::Noted;
 use crate::opening::Input;
+use crate::search::Search;
 use crate::system::System;
 use dd_elem::Write;
 use dd_files::{Cause, Files, Hints, LinkFault, NotDone, NotThere, Progress, Step};
@@ -15,6 +16,17 @@ use std::io::{self, ErrorKind};
 
 /// Limits the bytes of a line that is shown.
 const LINE: usize = 256;
+
+// Nothing can be at a path that leads nowhere, through a file, round a loop of links, or over a name that is too long.
+fn holds_nothing(error: ErrorKind) -> bool {
+    matches!(
+        error,
+        ErrorKind::NotFound
+            | ErrorKind::NotADirectory
+            | ErrorKind::FilesystemLoop
+            | ErrorKind::InvalidFilename
+    )
+}
 
 impl<R: System> Write for HostFiles<'_, R> {
     ghost calls = { λ s. s.output.counts.calls };
@@ -57,7 +69,7 @@ impl<'a, R: System> Files for HostFiles<'a, R> {
     fn member(&mut self, set: &str, path: &str) -> Result<Self::In, NotThere> {
         let last = self.last;
         if self.refusals < u64::MAX {
-            if let Ok(input) = last.note(self.open_member(set, path)) {
+            if let Ok(input) = last.note(self.open_member(set, path, Search::Shown)) {
                 return Ok(Counted::new(Noted::new(input, last)));
             }
         }
@@ -65,10 +77,10 @@ impl<'a, R: System> Files for HostFiles<'a, R> {
         Err(NotThere)
     }
 
-    fn exact_file(&mut self, path: &str) -> Result<Self::In, NotThere> {
+    fn exact_file(&mut self, set: &str, path: &str) -> Result<Self::In, NotThere> {
         let last = self.last;
         if self.refusals < u64::MAX {
-            if let Ok(input) = last.note(self.open_exact(path)) {
+            if let Ok(input) = last.note(self.open_member(set, path, Search::Exact)) {
                 return Ok(Counted::new(Noted::new(input, last)));
             }
         }
@@ -93,7 +105,7 @@ impl<'a, R: System> Files for HostFiles<'a, R> {
 
     fn folder(&mut self, path: &str) -> Result<(), NotDone> {
         let last = self.last;
-        let is_done = self.refusals < u64::MAX && last.note(self.make(path, path.len())).is_ok();
+        let is_done = self.refusals < u64::MAX && last.note(self.make_out(path)).is_ok();
         self.answer(is_done)
     }
 
@@ -106,7 +118,7 @@ impl<'a, R: System> Files for HostFiles<'a, R> {
     fn is_free(&self, path: &str) -> bool {
         match self.last.note(look(self.rt, path, Links::Kept)) {
             Ok(_) => false,
-            Err(error) => error.kind() == ErrorKind::NotFound,
+            Err(error) => holds_nothing(error.kind()),
         }
     }
 
@@ -130,10 +142,16 @@ impl<'a, R: System> Files for HostFiles<'a, R> {
         Err(fault)
     }
 
-    fn link_stored(&mut self, from: &str, path: &str, size: u64) -> Result<(), LinkFault> {
+    fn link_stored(
+        &mut self,
+        set: &str,
+        from: &str,
+        path: &str,
+        size: u64,
+    ) -> Result<(), LinkFault> {
         let mut fault = LinkFault::Absent;
         if self.refusals < u64::MAX {
-            match self.add_stored_link(from, path, size) {
+            match self.add_stored_link(set, from, path, size) {
                 Ok(()) => return Ok(()),
                 Err(found) => fault = found,
             }
@@ -211,11 +229,32 @@ impl<R: System> Hints for HostFiles<'_, R> {
     /// Shows at most 255 bytes. A failed write is ignored.
     fn show_line(&mut self, pieces: &[&str]) {
         self.progress.hide();
-        let mut line = InlineText::<LINE>::new();
-        for piece in pieces {
-            line = line.and_str(piece, piece.len());
-        }
-        line = line.and_str("\n", 1);
+        let line = line_of(pieces);
         let _ = write_again(&mut self.rt.error_output(), line.as_str().as_bytes());
     }
+
+    /// Keeps at most 255 bytes.
+    fn keep_line(&mut self, pieces: &[&str]) {
+        let line = line_of(pieces);
+        self.kept = self.kept.and_str(line.as_str(), line.as_str().len());
+    }
+
+    /// A failed write is ignored.
+    fn show_kept(&mut self) {
+        let kept = self.kept;
+        if kept.as_str().is_empty() {
+            return;
+        }
+        self.kept = KeptLines::new();
+        self.progress.hide();
+        let _ = write_again(&mut self.rt.error_output(), kept.as_str().as_bytes());
+    }
+}
+
+fn line_of(pieces: &[&str]) -> InlineText<LINE> {
+    let mut line = InlineText::<LINE>::new();
+    for piece in pieces {
+        line = line.and_str(piece, piece.len());
+    }
+    line.and_str("\n", 1)
 }

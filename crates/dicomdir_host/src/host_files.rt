@@ -2,21 +2,23 @@ ghost use Rattle.std.specs.Prelude.{◌≡◌, ◌↔◌, ◌⊎◌, ◌<◌, �
 ghost use Rattle.std.specs.Prelude.{IfSome, IsErr, IsOk, IsSome, IsTrue, string_bytes};
 ghost use Rattle.dd_elem.specs.Device.{HasWorked, counted, last_count};
 ghost use Rattle.dicomdir_host.specs.Directory.{IsDirectoryPath};
-ghost use Rattle.dicomdir_host.specs.Storing.{IsStored, Names};
+ghost use Rattle.dicomdir_host.specs.Storing.{IsStored, Names, WaitsLast};
 
 use crate::again::{Links, is_folder, look, make_folder};
 use crate::counted::Counted;
 use crate::last_refusal::LastRefusal;
 use crate::members::Members;
-use crate::opening::{Input, look_exact, open_any, open_seen};
+use crate::opening::{Input, open_any, open_seen};
 use crate::output::{self, Output};
-use crate::path_folder::{before_slash, folder_of};
+use crate::path_folder::{bare, before_slash, folder_of};
 use crate::progress_line::ProgressLine;
+use crate::search::Search;
 use crate::storing::Unstored;
 use crate::system::System;
 use dd_files::{DIRECTORY, NotDone};
 use dd_slots::Lanes;
 use std::alloc::Global;
+use std::fmt::InlineText;
 use std::io;
 
 // The most ended files that wait to be stored.
@@ -29,8 +31,9 @@ const NO_MORE: [i32; 2] = [24, 23];
 /// nothing more once a write to it has failed.
 ///
 /// A file that has ended stays open until it is stored. `store_batch` stores these files where 100 wait; `store` stores
-/// them and the names of all files and folders that were made. All is stored, too, before a file named DICOMDIR is
-/// started. What could not be stored stays lost: each later `store`, `store_batch` and start of a DICOMDIR is refused.
+/// them and the names of all files and folders that were made, and those in each folder that `folder` was asked for. A
+/// folder that can't be opened for that is not stored. All is stored, too, before a file named DICOMDIR is started.
+/// What could not be stored stays lost: each later `store`, `store_batch` and start of a DICOMDIR is refused.
 ///
 /// Where the system gives no more descriptors, the files that wait are stored and closed, and the call is made again.
 ///
@@ -38,8 +41,9 @@ const NO_MORE: [i32; 2] = [24, 23];
 /// is taken for not there, since to open it could wait. So is a source that, once opened, is not what was there before.
 /// A plain file whose size is said to be 0 is taken for empty.
 ///
-/// A file of a file-set is a source that is looked up in each spelling in which systems show a disc. No link is
-/// followed below the folder of a file-set, nor below the folder that is written to.
+/// A file of a file-set is a source that is looked up in each spelling in which systems show a disc; one of a pile is
+/// looked up at its own path. No link is followed below the folder of a file-set or pile, nor below the folder that is
+/// written to.
 ///
 /// Only a plain file of a file-set gets a hard link. Where the new name turns out to be another file, the call is
 /// refused as for an absent file, and the name stays. Else it counts as a file that has ended. Where the file was
@@ -66,7 +70,11 @@ pub struct HostFiles<'a, R: System> {
     pub(crate) last: &'a LastRefusal,
     pub(crate) refusals: u64,
     pub(crate) lanes: Lanes,
+    pub(crate) kept: KeptLines,
 }
+
+/// The lines that are kept until they are shown.
+pub(crate) type KeptLines = InlineText<2048>;
 
 // By hand, so that dropping it is one call.
 impl<R: System> Drop for HostFiles<'_, R> {
@@ -84,6 +92,7 @@ impl<R: System> Drop for HostFiles<'_, R> {
             last: _,
             refusals: _,
             lanes: _,
+            kept: _,
         } = self;
     }
 }
@@ -123,6 +132,7 @@ impl<'a, R: System> HostFiles<'a, R> {
             last,
             refusals: 0,
             lanes,
+            kept: KeptLines::new(),
         }
     }
 
@@ -176,6 +186,7 @@ impl<'a, R: System> HostFiles<'a, R> {
         &mut self,
         set: &str,
         path: &str,
+        search: Search,
     ) -> io::Result<Input<R::File, R::Stdin>>
         ensures same { self.new ≡ record self.old {
           unstored = self.new.unstored;
@@ -183,22 +194,10 @@ impl<'a, R: System> HostFiles<'a, R> {
           progress = self.new.progress;
         } }
     {
-        let seen = self.members.find(self.rt, set, path)?;
+        let seen = self.members.find(self.rt, set, path, search)?;
         let answer = open_seen(self.rt, self.members.place(), &seen);
         if self.makes_room(&answer) {
             return open_seen(self.rt, self.members.place(), &seen);
-        }
-        answer
-    }
-
-    pub(crate) fn open_exact(&mut self, path: &str) -> io::Result<Input<R::File, R::Stdin>>
-        ensures same { self.new
-            ≡ record self.old { unstored = self.new.unstored; progress = self.new.progress } }
-    {
-        let seen = look_exact(self.rt, path)?;
-        let answer = open_seen(self.rt, path, &seen);
-        if self.makes_room(&answer) {
-            return open_seen(self.rt, path, &seen);
         }
         answer
     }
@@ -278,6 +277,22 @@ impl<'a, R: System> HostFiles<'a, R> {
         self.make_one(path, out_len)?;
         self.folder = made;
         self.out_len = out_len;
+        Ok(())
+    }
+
+    /// Makes the folder that is written to, as `make` does. The names in it are to be stored, whatever is made there.
+    pub(crate) fn make_out(&mut self, path: &str) -> io::Result<()>
+        ensures waits { IsOk result → WaitsLast path.now self.new.unstored.folders.items }
+        ensures same { self.new ≡ record self.old {
+          folder = self.new.folder;
+          out_len = self.new.out_len;
+          unstored = self.new.unstored;
+          progress = self.new.progress;
+        } }
+    {
+        let folder = self.unstored.room(bare(path))?;
+        self.make(path, path.len())?;
+        self.unstored.name(folder)?;
         Ok(())
     }
 

@@ -14,7 +14,7 @@ mod output;
 mod path_buffer;
 mod path_folder;
 mod progress_line;
-mod spelling;
+mod search;
 mod storing;
 mod system;
 

@@ -4,10 +4,11 @@ ghost use Rattle.std.specs.Fs.{IsFile, file_type};
 ghost use Rattle.dicomdir_host.specs.Folders.{IsFolderOf};
 ghost use Rattle.dicomdir_host.specs.Storing.{Names, Waits};
 
-use crate::again::{Links, link_file, look};
+use crate::again::link_file;
 use crate::host_files::HostFiles;
 use crate::opening::{open_same, require_same};
 use crate::path_folder::folder_of;
+use crate::search::Search;
 use crate::system::System;
 use dd_files::LinkFault;
 use std::alloc::AllocError;
@@ -15,21 +16,11 @@ use std::fs::Metadata;
 use std::io::{self, ErrorKind};
 
 impl<'a, R: System> HostFiles<'a, R> {
-    fn plain_member(&mut self, set: &str, path: &str) -> io::Result<Metadata>
+    fn plain_member(&mut self, set: &str, path: &str, search: Search) -> io::Result<Metadata>
         ensures plain { IfOk result (λ seen. IsFile (file_type seen)) }
         ensures same { self.new ≡ record self.old { members = self.new.members } }
     {
-        let seen = self.members.find(self.rt, set, path)?;
-        if !seen.is_file() {
-            return Err(io::Error::other("no plain file"));
-        }
-        Ok(seen)
-    }
-
-    fn plain_file(&self, path: &str) -> io::Result<Metadata>
-        ensures { IfOk result (λ seen. IsFile (file_type seen)) }
-    {
-        let seen = look(self.rt, path, Links::Kept)?;
+        let seen = self.members.find(self.rt, set, path, search)?;
         if !seen.is_file() {
             return Err(io::Error::other("no plain file"));
         }
@@ -117,7 +108,7 @@ impl<'a, R: System> HostFiles<'a, R> {
         } }
     {
         let last = self.last;
-        let Ok(seen) = last.note(self.plain_member(set, from)) else {
+        let Ok(seen) = last.note(self.plain_member(set, from, Search::Shown)) else {
             return Err(LinkFault::Absent);
         };
         let Ok((folder, name)) = self.room_for(path) else {
@@ -142,10 +133,12 @@ impl<'a, R: System> HostFiles<'a, R> {
         require_same(self.rt, path, seen)
     }
 
-    /// Gives the plain file at exactly the path `from` a hard link, of which the name alone is to be stored. Changed
-    /// where that file has not `size` bytes. Absent, Taken and Refused come as from `add_link`, but no file is opened.
+    /// Gives the plain file at exactly the path `from` below `set` a hard link, of which the name alone is to be
+    /// stored. Changed where that file has not `size` bytes. Absent, Taken and Refused come as from `add_link`, but no
+    /// file is opened.
     pub(crate) fn add_stored_link(
         &mut self,
+        set: &str,
         from: &str,
         path: &str,
         size: u64,
@@ -154,10 +147,11 @@ impl<'a, R: System> HostFiles<'a, R> {
             → Names path.now self.old.unstored.folders.items self.new.unstored.folders.items }
         ensures files { self.new.unstored.files.items ≡ self.old.unstored.files.items }
         ensures lost { self.new.unstored.lost ≡ self.old.unstored.lost }
-        ensures same { self.new ≡ record self.old { unstored = self.new.unstored } }
+        ensures same { self.new
+            ≡ record self.old { unstored = self.new.unstored; members = self.new.members } }
     {
         let last = self.last;
-        let Ok(seen) = last.note(self.plain_file(from)) else {
+        let Ok(seen) = last.note(self.plain_member(set, from, Search::Exact)) else {
             return Err(LinkFault::Absent);
         };
         if seen.len() != size {
@@ -166,7 +160,7 @@ impl<'a, R: System> HostFiles<'a, R> {
         let Ok(folder) = self.unstored.room(folder_of(path)) else {
             return Err(LinkFault::Refused);
         };
-        self.make_link(from, path)?;
+        self.make_link(self.members.place(), path)?;
         match last.note(self.keep_name(folder, path, &seen)) {
             Ok(()) => Ok(()),
             Err(_) => Err(LinkFault::Absent),

@@ -1,10 +1,11 @@
-//! Looks up the files of file-sets by the names that systems show.
+//! Looks up the files of file-sets by the names that systems show, and those of piles by their own.
 ghost use Rattle.std.specs.Prelude.{IfOk};
 ghost use Rattle.std.specs.Fs.{IsSymlink, file_type};
 
 use crate::again::{Links, look};
 use crate::path_buffer::PathBuffer;
-use crate::spelling::spellings;
+use crate::search::{Search, tried};
+use dd_spelling::spellings;
 use std::fs::{self, Metadata};
 use std::io::{self, ErrorKind};
 
@@ -13,6 +14,7 @@ use std::io::{self, ErrorKind};
 pub(crate) struct Members {
     /// The length of the path `set`, or `usize::MAX` while no folder is kept.
     set_len: usize,
+    search: Search,
     /// The folder as recorded, with the `/` after it.
     recorded: PathBuffer,
     /// The folder as shown, and after it the name that was looked up.
@@ -25,6 +27,7 @@ impl Members {
     pub(crate) fn new() -> Self {
         Members {
             set_len: usize::MAX,
+            search: Search::Shown,
             recorded: PathBuffer::new(),
             place: PathBuffer::new(),
             folder_len: 0,
@@ -36,32 +39,34 @@ impl Members {
         self.place.as_str()
     }
 
-    /// Looks up the file at this path below the folder `set`. Each name below it may be shown in any spelling; the
-    /// first that is there is taken. A symbolic link counts as not there.
+    /// Looks up the file at this path below the folder `set`. Of the spellings of each name below it, the first that is
+    /// there is taken. A symbolic link counts as not there.
     pub(crate) fn find<R: fs::Files>(
         &mut self,
         rt: &R,
         set: &str,
         path: &str,
+        search: Search,
     ) -> io::Result<Metadata>
         ensures no_link { IfOk result (λ found. ¬ IsSymlink (file_type found)) }
     {
         let (folder, name) = split_name(path);
-        if self.set_len != set.len() || self.recorded.as_str() != folder {
+        if self.set_len != set.len() || self.search != search || self.recorded.as_str() != folder {
+            self.set_len = usize::MAX;
+            self.search = search;
             self.enter(rt, set, folder)?;
         }
         self.place.truncate(self.folder_len);
-        find_name(rt, name, &mut self.place)
+        find_name(rt, name, search, &mut self.place)
     }
 
     fn enter<R: fs::Files>(&mut self, rt: &R, set: &str, folder: &str) -> io::Result<()> {
-        self.set_len = usize::MAX;
         self.recorded.truncate(0);
         self.place.truncate(0);
         let (above, below) = split_set(set, folder);
         self.place.push(above)?;
         for name in below.split_terminator('/') {
-            find_name(rt, name, &mut self.place)?;
+            find_name(rt, name, self.search, &mut self.place)?;
             self.place.push("/")?;
         }
         self.folder_len = self.place.len();
@@ -92,14 +97,19 @@ fn split_set<'a>(set: &str, path: &'a str) -> (&'a str, &'a str) {
 
 /// Looks for the spellings of the name, and adds the one found to the place. The error is the first that says more than
 /// that nothing is there.
-fn find_name<R: fs::Files>(rt: &R, name: &str, place: &mut PathBuffer) -> io::Result<Metadata>
+fn find_name<R: fs::Files>(
+    rt: &R,
+    name: &str,
+    search: Search,
+    place: &mut PathBuffer,
+) -> io::Result<Metadata>
     ensures no_link { IfOk result (λ found. ¬ IsSymlink (file_type found)) }
 {
     let folder_len = place.len();
     let mut refused = io::Error::from(ErrorKind::NotFound);
-    for spelling in spellings() {
+    for spelling in tried(search, &spellings()) {
         place.truncate(folder_len);
-        place.push_spelled(name, spelling)?;
+        place.push_spelled(name, *spelling)?;
         match look(rt, place.as_str(), Links::Kept) {
             Ok(found) if !found.is_symlink() => return Ok(found),
             Ok(_) => {}

@@ -3,7 +3,7 @@ ghost use Rattle.std.specs.Io.{ReadsAtMost};
 use crate::again::{Links, look, look_at_open};
 use crate::system::System;
 use std::fs::{self, File, Metadata};
-use std::io::{self, ErrorKind, Read};
+use std::io::{self, Read};
 use std::os::unix::fs::MetadataExt;
 
 #[derive(Drop)]
@@ -35,15 +35,6 @@ impl<F: Read + Drop, S: Read + Drop> Read for Input<F, S> {
             Input::Standard(input) => input.read(buf),
         }
     }
-}
-
-/// Looks at what is at this path. A symbolic link counts as not there.
-pub(crate) fn look_exact<R: fs::Files>(rt: &R, path: &str) -> io::Result<Metadata> {
-    let seen = look(rt, path, Links::Kept)?;
-    if seen.is_symlink() {
-        return Err(io::Error::from(ErrorKind::NotFound));
-    }
-    Ok(seen)
 }
 
 /// Opens the file or folder that was seen. Refused where anything else was seen, since to open it could wait, and where

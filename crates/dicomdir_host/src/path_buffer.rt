@@ -1,9 +1,10 @@
 ghost use Rattle.std.specs.Prelude.{◌≡◌, ◌≤◌, ◌<◌, ◌+◌, ◌++◌, ℕ, List, [], IsErr, IsOk, length, take};
 ghost use Rattle.std.specs.Prelude.{if◌then◌else◌};
 ghost use Rattle.std.specs.Str.{IsUtf8};
-ghost use Rattle.dicomdir_host.specs.Spellings.{in_small_letters, most_path, spelled};
+ghost use Rattle.dd_spelling.specs.Spellings.{in_small_letters, spelled};
+ghost use Rattle.dicomdir_host.specs.Paths.{most_path};
 
-use crate::spelling::Spelling;
+use dd_spelling::Spelling;
 use std::io::{self, ErrorKind};
 use std::marker::Model;
 use std::str::from_utf8;

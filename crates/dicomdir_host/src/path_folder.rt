@@ -1,5 +1,5 @@
 ghost use Rattle.std.specs.Prelude.{◌≡◌, ◌≢◌, ◌<◌, ◌≤◌, ◌-◌, length, slice_index};
-ghost use Rattle.dicomdir_host.specs.Folders.{AreSlashes, HasNoSlash, IsFolderOf};
+ghost use Rattle.dicomdir_host.specs.Folders.{AreSlashes, HasNoSlash, IsBare, IsFolderOf};
 
 fn slashes_before(path: &[u8], place: usize) -> usize
     requires { place ≤ length path.now }
@@ -42,6 +42,22 @@ pub(crate) fn folder_of(path: &str) -> &str
         return "/";
     }
     let (folder, _) = path.split_at(base);
+    folder
+}
+
+/// Gives the path of a folder without the slashes after it. The empty path is the current folder, `.`.
+pub(crate) fn bare(path: &str) -> &str
+    ensures { IsBare path.now result.now }
+{
+    let bytes = path.as_bytes();
+    let end = slashes_before(bytes, bytes.len());
+    if bytes.is_empty() {
+        return ".";
+    }
+    if end == 0 {
+        return "/";
+    }
+    let (folder, _) = path.split_at(end);
     folder
 }
 

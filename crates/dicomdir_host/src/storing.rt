@@ -1,5 +1,6 @@
-ghost use Rattle.std.specs.Prelude.{◌≡◌, ◌↔◌, ◌++◌, ◌∷◌, [], None, Some, length, string_bytes};
-ghost use Rattle.std.specs.Prelude.{IfOk, IfSome, IsErr, IsOk, IsSome};
+ghost use Rattle.std.specs.Prelude.{◌≡◌, ◌↔◌, ◌⊎◌, ◌++◌, ◌∷◌, [], None, Some, length, string_bytes};
+ghost use Rattle.std.specs.Prelude.{Err, IfErr, IfOk, IfSome, IsErr, IsOk, IsSome, IsTrue};
+ghost use Rattle.std.specs.IoError.{error_kind};
 ghost use Rattle.dicomdir_host.specs.Storing.{IsStored};
 
 use crate::again::{Links, look};
@@ -151,7 +152,7 @@ impl<F: OpenFile + Drop> Unstored<F> {
         self.folders.dedup();
         let folders = mem::replace(&mut self.folders, Vec::new(self.alloc));
         for folder in folders {
-            if store_folder(rt, folder.as_str()).is_err() {
+            if store_opened(open_folder(rt, folder.as_str())).is_err() {
                 self.lose(folder);
             }
         }
@@ -181,15 +182,24 @@ fn open_folder<R: fs::Files>(rt: &R, path: &str) -> io::Result<R::File> {
     File::open(rt, path)
 }
 
-// Passes over a folder that may not be opened, and one that its system can't store.
-fn store_folder<R: fs::Files>(rt: &R, path: &str) -> io::Result<()> {
-    let folder = match open_folder(rt, path) {
-        Ok(folder) => folder,
-        Err(error) if error.kind() == ErrorKind::PermissionDenied => return Ok(()),
-        Err(error) => return Err(error),
-    };
+// EINVAL, ENOTSUP and ENOSYS: the file system has no call that stores a folder.
+fn stores_no_folder(error: &io::Error) -> bool
+    ensures { IsTrue result ↔ ((error_kind error.now ≡ ErrorKind.InvalidInput)
+        ⊎ (error_kind error.now ≡ ErrorKind.Unsupported)) }
+{
+    matches!(
+        error.kind(),
+        ErrorKind::InvalidInput | ErrorKind::Unsupported
+    )
+}
+
+// Stores the names in a folder. One that was not opened is refused for the same reason.
+fn store_opened<F: OpenFile + Drop>(opened: io::Result<F>) -> io::Result<()>
+    ensures { IfErr opened (λ error. result ≡ Err error) }
+{
+    let folder = opened?;
     match folder.sync_all() {
-        Err(error) if error.kind() == ErrorKind::InvalidInput => Ok(()),
+        Err(error) if stores_no_folder(&error) => Ok(()),
         answer => answer,
     }
 }

@@ -57,11 +57,12 @@ pub record HasTaken (verb : Verb) (given : List Row) (new : Held) (taken : Conte
   pub visited : Realises (label_of (choice_of given) taken) (held_of taken).versions (text_of (choice_of given) taken)
   pub again : SaysItself (held_of taken).versions (held_of taken).withdrawn (text_of (choice_of given) taken)
 
-pub has_taken : {P : Type 0} (From MayLink : P → List ℕ → Type 0) (verb : Verb) (given : List Row) (folder : List ℕ)
+pub has_taken : {P : Type 0} (From MayLink : P → List ℕ → Type 0)
+    (said : P → Option Parts) (verb : Verb) (given : List Row) (folder : List ℕ)
     (plan : Layout) (picks : List P) (old new : Held) (taken : Contents) → IsOnly out_name given folder
     → plan ≡ plan_of (choice_of given) taken
-    → StandsWhole From MayLink (folder_for verb given folder) plan picks old new → HasTaken verb given new taken
-has_taken From MayLink verb given folder plan picks old new taken out is stands =
+    → StandsWhole From MayLink said (folder_for verb given folder) plan picks old new → HasTaken verb given new taken
+has_taken From MayLink said verb given folder plan picks old new taken out is stands =
     let m = (held_of taken).versions in
     let up = rising-best versions_ordered (left_of taken.versions taken.withdrawn) in
     let visited : RealisesPlan (plan_of (choice_of given) taken) = subst RealisesPlan is stands.visited in
@@ -133,14 +134,14 @@ index_takes given old new made =
         );
         withdrawn = λ uid. (λ none. member_of uid [] none, λ says. absurd says);
       };
-      has = has_taken _ _ Index given made.folder mk.indexed.plan mk.indexed.picks.items old new
+      has = has_taken _ _ _ Index given made.folder mk.indexed.plan mk.indexed.picks.items old new
           (record { versions = s; withdrawn = [] }) made.new_set.out
           (nothing_withdrawn (choice_of given) mk.indexed.plan s mk.is.plan) mk.stands;
     }
 
-publish_takes : (given : List Row) (old new : Held) → PublishesRows given (Some old) (Some new)
+publish_takes : (given : List Row) (status : ℕ) (old new : Held) → PublishesRows given status (Some old) (Some new)
     → Takes Publish given old new
-publish_takes given old new made =
+publish_takes given status old new made =
     let mk = made.made in
     let s = versions_of (accepted (answers_in mk.lists)) in
     record {
@@ -158,7 +159,7 @@ publish_takes given old new made =
         );
         withdrawn = λ uid. (λ none. member_of uid [] none, λ says. absurd says);
       };
-      has = has_taken _ _ Publish given made.folder mk.indexed.plan mk.indexed.picks.items old new
+      has = has_taken _ _ _ Publish given made.folder mk.indexed.plan mk.indexed.picks.items old new
           (record { versions = s; withdrawn = [] }) made.new_set.out
           (nothing_withdrawn (choice_of given) mk.indexed.plan s mk.is.plan) mk.stands;
     }
@@ -192,7 +193,7 @@ merge_takes given old new made =
               (subst (λ (folders : List Text). OneSetSays folders old (Names uid)) (same says.0 says.1) says.2)),
         );
       };
-      has = has_taken _ _ Merge given made.folder mk.merged.plan mk.merged.picks.items old new
+      has = has_taken _ _ _ Merge given made.folder mk.merged.plan mk.merged.picks.items old new
           (record { versions = s; withdrawn = w }) made.new_set.out mk.is.plan mk.stands;
     }
 
@@ -222,7 +223,7 @@ withdraw_takes given old new made =
           ]),
         );
       };
-      has = has_taken _ _ Withdraw given made.folder mk.merged.plan mk.merged.picks.items old new
+      has = has_taken _ _ _ Withdraw given made.folder mk.merged.plan mk.merged.picks.items old new
           (record { versions = s; withdrawn = uids ++ w }) made.new_set.out mk.is.plan mk.stands;
     }
 
@@ -230,7 +231,7 @@ pub takes : (verb : Verb) (given : List Row) (old new : Held) → Makes verb giv
 takes Index given old new made = index_takes given old new made
 takes Merge given old new made = merge_takes given old new made
 takes Withdraw given old new made = withdraw_takes given old new made
-takes Publish given old new made = publish_takes given old new made
+takes Publish given old new made = publish_takes given made.0 old new made.2
 takes Stage given old new made = absurd made
 takes Check given old new made = absurd made
 takes ListSet given old new made = absurd made

@@ -1,31 +1,36 @@
 -- The list of a pile says of its sources what `index` reads of them.
-use Rattle.std.proofs.Common.{◌≡◌, ◌∙◌, ◌<◌, ℕ, zero, suc, List, [], ◌∷◌, Some, Ok, Err}
-use Rattle.std.proofs.Common.{ap, arith, inl, inr, length, map, refl, subst, sym}
-use Rattle.std.specs.Prelude.{Contains, IfErr, slice_get}
+use Rattle.std.proofs.Common.{◌≡◌, ◌∙◌, ◌<◌, ◌+◌, ℕ, zero, suc, Bool, true, false, List, [], ◌∷◌, Some, Ok, Err}
+use Rattle.std.proofs.Common.{ap, arith, if◌then◌else◌, inl, inr, length, map, refl, subst, sym}
+use Rattle.std.specs.Cmp.{nat_eq_equiv}
+use Rattle.std.specs.Prelude.{◌⊎◌, Contains, IfErr, slice_get, slice_index_or}
 use Rattle.std.specs.List.{AllByRecursion}
 use Rattle.std.specs.Str.{IsUtf8}
 use Rattle.std.proofs.lemmas.List.{length-map}
+use Rattle.std.proofs.lemmas.Map.Views.{list_any-from_Contains}
 use Rattle.std.proofs.lemmas.Option.{same_Some, slice_get_within}
 use Rattle.clap.specs.Words.{Row, Text}
 use Rattle.dd_catalogue.proofs.Members.{Member, contained, member_of}
-use Rattle.dd_engine.specs.Indexing.{Answer}
 use Rattle.dd_engine.specs.Supply.{AnswersSource, IsOfSource}
 use Rattle.dd_files.specs.Files.{Held}
 use Rattle.dd_line.specs.declared.line.Verb.TheVariants.{Index, Publish}
 use Rattle.dd_pile.specs.Lists.{HasList}
-use Rattle.dd_pile.specs.Piles.{PileStands}
+use Rattle.dd_pile.specs.Piles.{IsCopied, IsListedAs, PileStands}
 use Rattle.dd_pile.specs.declared.source.StageSource.{StageSource}
-use Rattle.dd_staged.specs.Sources.{IsFound, IsSource, Source}
+use Rattle.dd_staged.specs.Sources.{IsFound, IsSource, Source, has_copy}
 use Rattle.dd_staged.specs.Stages.{IsStage, stage_text}
+use Rattle.dd_staged.specs.declared.source_fault.SourceFault.TheVariants.{Absent, BadName, Key, Unread}
 use Rattle.dd_version.specs.declared.parts.Parts.{Parts}
 use Rattle.dicomdir_laws.proofs.KeptListed.{one_directory, one_list}
 use Rattle.dicomdir.proofs.ShortFiles.{short_file}
 use Rattle.dicomdir_laws.proofs.SaidByFiles.{version_is}
-use Rattle.dicomdir_laws.proofs.SaidByLists.{one_list_of}
+use Rattle.dicomdir_laws.proofs.SaidByLists.{one_list_of, said_of_answer}
 use Rattle.dicomdir_laws.specs.Headline.{IsPileOf, LeaveOneDirectory, Makes, OneFileSays, PublishesSources}
-use Rattle.dicomdir_laws.specs.Headline.{SayTheSame, SaysVersion}
+use Rattle.dicomdir_laws.specs.Headline.{SayTheSame, SaysVersion, paths_read}
+use Rattle.dicomdir.specs.FileSupply.{is_one}
+use Rattle.dicomdir.specs.From.{looked_up}
 use Rattle.dicomdir.specs.Indexes.{most_of_source}
 use Rattle.dicomdir.specs.Lines.{choice_of}
+use Rattle.dicomdir.specs.Unread.{Staged, answer_of}
 
 -- ---- members by number
 
@@ -64,11 +69,84 @@ one_file now path name bytes file same here there =
 one_at : {V : Type 0} (xs : List V) (k : ℕ) (v w : V) → slice_get xs k ≡ Some v → slice_get xs k ≡ Some w → v ≡ w
 one_at xs k v w one two = same_Some v w (sym one ∙ two)
 
--- ---- one source
+-- ---- a source that was read
 
-settled_of : (found : Answer) → IsFound found → IfErr found IsOfSource
-settled_of (Ok version) is = tt
-settled_of (Err fault) is = (is.of_read.read, is.of_read.memory)
+settled_of : (found : Staged) → has_copy found ≡ true → IsFound found → IfErr (answer_of found) IsOfSource
+settled_of (Ok version) read is = tt
+settled_of (Err (Key fault)) read is = (is.of_read.read, is.of_read.memory)
+settled_of (Err Absent) read is = let no : false ≡ true = read in absurd (cc)
+settled_of (Err Unread) read is = let no : false ≡ true = read in absurd (cc)
+settled_of (Err (BadName number)) read is = let no : false ≡ true = read in absurd (cc)
+
+copied_of : (pile : Text) (number size : ℕ) (source : StageSource) (found : Staged) (old new : Held)
+    → has_copy found ≡ true → IsListedAs pile number source size found old new
+    → IsCopied pile number source size (answer_of found) old new
+copied_of pile number size source (Ok version) old new read is = is
+copied_of pile number size source (Err (Key fault)) old new read is = is
+copied_of pile number size source (Err Absent) old new read is = let no : false ≡ true = read in absurd (cc)
+copied_of pile number size source (Err Unread) old new read is = let no : false ≡ true = read in absurd (cc)
+copied_of pile number size source (Err (BadName n)) old new read is = let no : false ≡ true = read in absurd (cc)
+
+-- ---- the paths of those that were read
+
+module _ (path : Text) where
+  in_front : (read : Bool) (first : Text) (rest : List Text) → read ≡ true → first ≡ path
+      → Member path (if read then first ∷ rest else rest)
+  in_front true first rest is same = inl same
+  in_front false first rest is same = let no : false ≡ true = is in absurd (cc)
+
+  behind : (read : Bool) (first : Text) (rest : List Text) → Member path rest
+      → Member path (if read then first ∷ rest else rest)
+  behind true first rest later = inr later
+  behind false first rest later = later
+
+  either : (read : Bool) (first : Text) (rest : List Text) → Member path (if read then first ∷ rest else rest)
+      → ((read ≡ true) × (first ≡ path)) ⊎ Member path rest
+  either true first rest (inl same) = inl (refl, same)
+  either true first rest (inr later) = inr later
+  either false first rest later = inr later
+
+  read_at : (paths : List Text) (list : List Source) (k : ℕ) (item : Source) → slice_get paths k ≡ Some path
+      → slice_get list k ≡ Some item → has_copy item.found ≡ true → Member path (paths_read paths list)
+  read_at [] list k item at of read = absurd (cc)
+  read_at (first ∷ paths) [] k item at of read = absurd (cc)
+  read_at (first ∷ paths) (source ∷ list) zero item at of read =
+      in_front (has_copy source.found) first (paths_read paths list)
+      (subst (λ (s : Source). has_copy s.found ≡ true) (sym (same_Some source item of)) read)
+      (same_Some first path at)
+  read_at (first ∷ paths) (source ∷ list) (suc k) item at of read =
+      behind (has_copy source.found) first (paths_read paths list) (read_at paths list k item at of read)
+
+  record WasRead (paths : List Text) (list : List Source) : Type 0 where
+    pub k : ℕ
+    pub item : Source
+    pub at : slice_get paths k ≡ Some path
+    pub of : slice_get list k ≡ Some item
+    pub read : has_copy item.found ≡ true
+
+  was_read : (paths : List Text) (list : List Source) → Member path (paths_read paths list) → WasRead paths list
+  was_read [] list among = absurd among
+  was_read (first ∷ paths) [] among = absurd among
+  was_read (first ∷ paths) (source ∷ list) among =
+      elim (either (has_copy source.found) first (paths_read paths list) among) [
+        | inl here ↦ record {
+          k = zero;
+          item = source;
+          at = ap (λ (p : Text). Some p) here.1;
+          of = refl;
+          read = here.0;
+        }
+        | inr later ↦
+            let there = was_read paths list later in
+            record { k = suc there.k; item = there.item; at = there.at; of = there.of; read = there.read }
+      ]
+
+-- ---- one pile
+
+get_of : {V : Type 0} (xs : List V) (k : ℕ) (d v : V) → slice_get xs k ≡ Some v → slice_index_or xs k d ≡ v
+get_of [] k d v is = absurd (cc)
+get_of (x ∷ xs) zero d v is = same_Some x v is
+get_of (x ∷ xs) (suc k) d v is = get_of xs k d v is
 
 module _ (pile : Text) (paths : List Text) (held now : Held) (is : IsPileOf pile paths held now) where
   abbrev sources : List StageSource
@@ -89,38 +167,72 @@ module _ (pile : Text) (paths : List Text) (held now : Held) (is : IsPileOf pile
     is = is.makes.makes.spelled;
   }
 
-  placed : paths ≡ map (λ (source : StageSource). source.path.now) sources
-  placed = is.looked ∙ sym is.makes.are.placed
-
-  count : length paths ≡ length sources
-  count = ap length placed ∙ length-map sources (λ (source : StageSource). source.path.now)
-
   listed : length list ≡ length sources
   listed = sym (length-map list (λ (source : Source). source.name)) ∙ ap length is.makes.makes.names
       ∙ length-map sources (λ (source : StageSource). source.name.now)
 
+  abbrev looked : List Text
+  looked = map (looked_up is.from) is.names
+
+  copied : (k : ℕ) (source : StageSource) (item : Source) → slice_get sources k ≡ Some source
+      → slice_get list k ≡ Some item → has_copy item.found ≡ true
+      → IsCopied pile (k + 1) source item.size (answer_of item.found) is.before is.made
+  copied k source item at of read = copied_of pile (k + 1) item.size source item.found is.before is.made read
+      (stands.each k source item at of)
+
+  -- a source that was read has a name
+  named : (k : ℕ) (source : StageSource) (item : Source) → slice_get sources k ≡ Some source
+      → slice_get list k ≡ Some item → has_copy item.found ≡ true → ¬ Contains is.makes.bad k
+  named k source item at of read has =
+      let one : is_one is.makes.bad k ≡ true = list_any-from_Contains nat_eq_equiv k is.makes.bad has in
+      let no : true ≡ false =
+      sym one ∙ sym (is.makes.are.named k source at) ∙ (copied k source item at of read).named in
+      absurd (cc)
+
+  -- and stands where that is looked up
+  placed : (k : ℕ) (source : StageSource) (item : Source) (name : Text) → slice_get sources k ≡ Some source
+      → slice_get list k ≡ Some item → has_copy item.found ≡ true → slice_get is.names k ≡ Some name
+      → source.path.now ≡ looked_up is.from name
+  placed k source item name at of read called =
+      let shown = map (λ (source : StageSource). source.name.now) sources in
+      let here = get_map (λ (source : StageSource). source.name.now) sources k source at in
+      let same : source.name.now ≡ name = sym (get_of shown k [] source.name.now here)
+      ∙ is.makes.are.called.named k (slice_get_within is.names k name called) (named k source item at of read)
+      ∙ get_of is.names k [] name called in
+      same_Some source.path.now (looked_up is.from name)
+      (sym (get_map (λ (source : StageSource). source.path.now) sources k source at)
+      ∙ ap (λ (l : List Text). slice_get l k) is.makes.are.placed
+      ∙ get_map (looked_up is.from) shown k source.name.now here
+      ∙ ap (λ (n : Text). Some (looked_up is.from n)) same)
+
   -- the source at a number, and what its file held
   pub record IsAt (k : ℕ) (item : Source) : Type 0 where
     pub path : Text
-    pub among : slice_get paths k ≡ Some path
+    pub numbered : slice_get looked k ≡ Some path
+    pub among : Contains paths path
     pub bytes : List ℕ
     pub there : now.bytes_at path ≡ Some bytes
-    pub found : AnswersSource most_of_source bytes item.found
+    pub found : AnswersSource most_of_source bytes (answer_of item.found)
 
-  is_at : (k : ℕ) (item : Source) → slice_get list k ≡ Some item → IsAt k item
-  is_at k item at =
-      let within : k < length sources = omega (arith, slice_get_within list k item at, listed) in
+  is_at : (k : ℕ) (item : Source) → slice_get list k ≡ Some item → has_copy item.found ≡ true → IsAt k item
+  is_at k item of read =
+      let within : k < length sources = omega (arith, slice_get_within list k item of, listed) in
       let source = some_at sources k within in
-      let staged = stands.each k source.0 item source.1 at in
-      let path = source.0.path.now in
-      let among : slice_get paths k ≡ Some path =
-      ap (λ (l : List Text). slice_get l k) placed
-      ∙ get_map (λ (source : StageSource). source.path.now) sources k source.0 source.1 in
+      let many : length is.names ≡ length sources = sym is.makes.are.called.count
+      ∙ length-map sources (λ (source : StageSource). source.name.now) in
+      let name = some_at is.names k (omega (arith, within, many)) in
+      let staged = copied k source.0 item source.1 of read in
+      let path = looked_up is.from name.0 in
+      let numbered = get_map (looked_up is.from) is.names k name.0 name.1 in
+      let among : Contains paths path = contained path paths
+      (subst (λ (l : List Text). Member path l) (sym is.looked) (read_at path looked list k item numbered of read)) in
       record {
         path = path;
+        numbered = numbered;
         among = among;
         bytes = staged.of.bytes;
-        there = is.same path (contained path paths (at_member path paths k among)) ∙ staged.of.stands;
+        there = is.same path among
+            ∙ ap is.made.bytes_at (sym (placed k source.0 item name.0 source.1 of read name.1)) ∙ staged.of.stands;
         found = staged.of.found;
       }
 
@@ -128,21 +240,20 @@ module _ (pile : Text) (paths : List Text) (held now : Held) (is : IsPileOf pile
   pub says_staged : (names : List Text) (version : Parts) (says : OneFileSays names now version)
       → Contains paths says.name → Member (Ok version) (map (λ (source : Source). source.found) list)
   says_staged names version says among =
-      let at = member_at says.name paths (member_of says.name paths among) in
-      let within : at.0 < length list =
-      omega (arith, slice_get_within paths at.0 says.name at.1, count, listed) in
-      let item = some_at list at.0 within in
-      let here = is_at at.0 item.0 item.1 in
-      let path : here.path ≡ says.name = one_at paths at.0 here.path says.name here.among at.1 in
+      let at = was_read says.name looked list
+      (subst (λ (l : List Text). Member says.name l) is.looked (member_of says.name paths among)) in
+      let here = is_at at.k at.item at.of at.read in
+      let path : here.path ≡ says.name = one_at looked at.k here.path says.name here.numbered at.at in
       let bytes : here.bytes ≡ says.file =
       one_file now here.path says.name here.bytes says.file path here.there says.there in
-      let answers : AnswersSource most_of_source says.file item.0.found =
-      subst (λ (b : List ℕ). AnswersSource most_of_source b item.0.found) bytes here.found in
-      let source : IsSource item.0 = all_at IsSource list at.0 item.0 is.makes.makes.spelled.each item.1 in
-      let found = version_is says.file version item.0.found (settled_of item.0.found source.found)
-      (answers.fits says.short) says.right in
-      at_member (Ok version) (map (λ (source : Source). source.found) list) at.0
-      (get_map (λ (source : Source). source.found) list at.0 item.0 item.1 ∙ ap (λ (a : Answer). Some a) found)
+      let answers : AnswersSource most_of_source says.file (answer_of at.item.found) =
+      subst (λ (b : List ℕ). AnswersSource most_of_source b (answer_of at.item.found)) bytes here.found in
+      let source : IsSource at.item = all_at IsSource list at.k at.item is.makes.makes.spelled.each at.of in
+      let found = said_of_answer now version at.item.found
+      (version_is says.file version (answer_of at.item.found)
+      (settled_of at.item.found at.read source.found) (answers.fits says.short) says.right) in
+      at_member (Ok version) (map (λ (source : Source). source.found) list) at.k
+      (get_map (λ (source : Source). source.found) list at.k at.item at.of ∙ ap (λ (a : Staged). Some a) found)
 
   -- what the list says of a source, `index` finds
   pub staged_says : (names : List Text) (version : Parts) → ((name : Text) → Contains paths name → Contains names name)
@@ -157,12 +268,12 @@ module _ (pile : Text) (paths : List Text) (held now : Held) (is : IsPileOf pile
         length-map list (λ (source : Source). source.found),
       ) in
       let item = some_at list at.0 within in
-      let here = is_at at.0 item.0 item.1 in
       let is : item.0.found ≡ Ok version = same_Some item.0.found (Ok version)
       (sym (get_map (λ (source : Source). source.found) list at.0 item.0 item.1) ∙ at.1) in
+      let here = is_at at.0 item.0 item.1 (ap has_copy is) in
       let right : AnswersSource most_of_source here.bytes (Ok version) =
-      subst (λ (a : Answer). AnswersSource most_of_source here.bytes a) is here.found in
-      let name = among here.path (contained here.path paths (at_member here.path paths at.0 here.among)) in
+      subst (λ (a : Staged). AnswersSource most_of_source here.bytes (answer_of a)) is here.found in
+      let name = among here.path here.among in
       let short = short_file here.bytes version right in
       record {
         name = here.path;

@@ -11,11 +11,13 @@ use Rattle.dd_files.proofs.OnePaths.{one_path}
 use Rattle.dd_pile.specs.Lists.{HasList}
 use Rattle.dd_staged.specs.Sources.{Source}
 use Rattle.dd_staged.specs.Stages.{IsStage}
+use Rattle.dd_staged.specs.declared.source_fault.SourceFault.TheVariants.{Absent, BadName, Key, Unread}
 use Rattle.dd_staged.proofs.Valid as stages
 use Rattle.dd_version.specs.declared.parts.Parts.{Parts}
 use Rattle.dicomdir_laws.proofs.SaidBySets.{at_end, in_either, in_front}
 use Rattle.dicomdir_laws.specs.Headline.{OneListSays}
 use Rattle.dicomdir.specs.Publishes.{AreLists, answers_in, sources_in}
+use Rattle.dicomdir.specs.Unread.{Staged, answer_of}
 
 -- ---- the versions among answers
 
@@ -51,11 +53,32 @@ module _ (held : Held) (version : Parts) where
   answer = Ok version
 
   abbrev found_in : List Source → List Answer
-  found_in sources = map (λ (source : Source). source.found) sources
+  found_in sources = map (λ (source : Source). answer_of source.found) sources
+
+  abbrev said_in : List Source → List Staged
+  said_in sources = map (λ (source : Source). source.found) sources
+
+  -- a source is answered by this version where its list says it
+  pub said_of_answer : (staged : Staged) → answer_of staged ≡ Ok version → staged ≡ Ok version
+  said_of_answer (Ok one) is = let same : one ≡ version = cc in ap (λ (v : Parts). Ok v) same
+  said_of_answer (Err (Key fault)) is = absurd (cc)
+  said_of_answer (Err Absent) is = absurd (cc)
+  said_of_answer (Err Unread) is = absurd (cc)
+  said_of_answer (Err (BadName number)) is = absurd (cc)
+
+  said_by : (sources : List Source) → Member answer (found_in sources) → Member (Ok version) (said_in sources)
+  said_by [] found = absurd found
+  said_by (source ∷ sources) (inl is) = inl (said_of_answer source.found is)
+  said_by (source ∷ sources) (inr later) = inr (said_by sources later)
+
+  found_by : (sources : List Source) → Member (Ok version) (said_in sources) → Member answer (found_in sources)
+  found_by [] said = absurd said
+  found_by (source ∷ sources) (inl is) = inl (ap answer_of is)
+  found_by (source ∷ sources) (inr later) = inr (found_by sources later)
 
   both_found : (list : List Source) (lists : List (List Source))
       → answers_in (list ∷ lists) ≡ found_in list ++ answers_in lists
-  both_found list lists = map-append (λ (source : Source). source.found) list (sources_in lists)
+  both_found list lists = map-append (λ (source : Source). answer_of source.found) list (sources_in lists)
 
   later_says : (pile : Text) (piles : List Text) → OneListSays piles held version
       → OneListSays (pile ∷ piles) held version
@@ -80,7 +103,7 @@ module _ (held : Held) (version : Parts) where
           among = contained pile (pile ∷ piles) (inl refl);
           sources = list;
           list = are.0;
-          says = contained answer (found_in list) here;
+          says = contained (Ok version) (said_in list) (said_by list here);
         }
         | inr later ↦ later_says pile piles (said_of_found piles lists are.1 later)
       ]
@@ -110,4 +133,4 @@ module _ (held : Held) (version : Parts) where
   says_found piles lists are says =
       found_kept 0 (answers_in lists) version
       (found_of_said piles lists are says.pile says.sources (member_of says.pile piles says.among) says.list
-      (member_of answer (found_in says.sources) says.says))
+      (found_by says.sources (member_of (Ok version) (said_in says.sources) says.says)))

@@ -189,7 +189,7 @@ merged_parts verb given others old new first last made also choice of =
     let mk = also.made in
     let taken : Contents =
     record { versions = versions_in (numbered 0 mk.listings); withdrawn = withdrawn_in mk.listings } in
-    let two = has_taken _ _ Merge others also.folder mk.merged.plan mk.merged.picks.items first last taken
+    let two = has_taken _ _ _ Merge others also.folder mk.merged.plan mk.merged.picks.items first last taken
     also.new_set.out mk.is.plan mk.stands in
     let folders : also.folders ≡ of.folders = one_list _ _ _ also.folders of.folders first also.are of.are in
     let dirs : AreDirectories of.folders mk.sets (Some first) =

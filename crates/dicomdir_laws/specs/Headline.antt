@@ -1,5 +1,6 @@
 -- What the files say that a command reads, and what stands in OUT once it has made its file-set.
-use Rattle.std.specs.Prelude.{◌≡◌, ◌≢◌, ◌↔◌, ◌⊎◌, ◌≤◌, ℕ, List, [], Contains, Some, Ok, false, length, map}
+use Rattle.std.specs.Prelude.{◌≡◌, ◌≢◌, ◌↔◌, ◌⊎◌, ◌≤◌, ℕ, Bool, List, [], ◌∷◌, Contains, Some, Ok, false}
+use Rattle.std.specs.Prelude.{if◌then◌else◌, length, map}
 use Rattle.std.specs.Str.{IsUtf8}
 use Rattle.clap.specs.Takes.{is_given}
 use Rattle.clap.specs.Words.{Row, Text, first_of}
@@ -19,9 +20,10 @@ use Rattle.dd_line.specs.declared.line.Verb.{Verb}
 use Rattle.dd_line.specs.declared.line.Verb.TheVariants.{Check, Index, List as ListSet, Merge, Publish, Stage, Withdraw}
 use Rattle.dd_pile.specs.Lists.{HasList}
 use Rattle.dd_pile.specs.declared.sum.StageSum.{StageSum}
-use Rattle.dd_staged.specs.Sources.{Source}
+use Rattle.dd_staged.specs.Sources.{Source, has_copy}
 use Rattle.dd_staged.specs.Stages.{IsStage}
 use Rattle.dd_version.specs.declared.parts.Parts.{Parts}
+use Rattle.dicomdir.specs.Done.{IsDone}
 use Rattle.dicomdir.specs.From.{looked_up}
 use Rattle.dicomdir.specs.Indexes.{most_of_source}
 use Rattle.dicomdir.specs.Lines.{IndexesRows, MergesRows, PublishesRows, WithdrawsRows, choice_of, from_in, list_in}
@@ -106,12 +108,13 @@ Withdraws ListSet given held uid = ⊥
 
 -- ---- what stands in OUT
 
--- `index`, `merge`, `withdraw` or `publish`, with these words, ended with 0 and made what `run` says of it
+-- `index`, `merge` or `withdraw`, with these words, ended with 0, or `publish` ended with 0 or 3, and made what `run` says
+-- of it
 abbrev pub Makes : Verb → List Row → Held → Held → Type 0
 Makes Index given old new = IndexesRows given 0 (Some old) (Some new)
 Makes Merge given old new = MergesRows given (Some old) (Some new)
 Makes Withdraw given old new = WithdrawsRows given (Some old) (Some new)
-Makes Publish given old new = PublishesRows given (Some old) (Some new)
+Makes Publish given old new = (status : ℕ) × IsDone status × PublishesRows given status (Some old) (Some new)
 Makes Stage given old new = ⊥
 Makes Check given old new = ⊥
 Makes ListSet given old new = ⊥
@@ -148,19 +151,29 @@ pub record MergesCopies (verb : Verb) (given others : List Row) (new first : Hel
   pub some : folders ≢ []
   pub each : (folder : Text) → Contains folders folder → HasDirectory folder bytes (Some first)
 
--- `stage` made this pile of the files at these paths, where the same bytes stand now. The pile is kept as it was made.
+-- those of these paths at which a source stands that the list of a pile says was read
+abbrev pub paths_read : List Text → List Source → List Text
+paths_read [] list = []
+paths_read (path ∷ paths) [] = []
+paths_read (path ∷ paths) (source ∷ list) =
+    if has_copy source.found then path ∷ paths_read paths list else paths_read paths list
+
+-- `stage` made this pile, and read the files at these paths for it, where the same bytes stand now. The pile is kept as it
+-- was made.
 pub record IsPileOf (pile : Text) (paths : List Text) (held now : Held) : Type 0 where
+  pub keeps_going : Bool
   pub from : Text
   pub names : List Text
-  pub looked : paths ≡ map (looked_up from) names
   pub sum : StageSum
   pub before : Held
   pub made : Held
-  pub makes : MakesNamed from pile names sum (Some before) (Some made)
+  pub makes : MakesNamed keeps_going from pile names sum (Some before) (Some made)
+  pub looked : paths ≡ paths_read (map (looked_up from) names) makes.makes.list
   pub kept : KeepsAll made held
   pub same : (path : Text) → Contains paths path → now.bytes_at path ≡ made.bytes_at path
 
--- The piles that `publish` is given were made of sources that `index` is given: of all these, and of no others.
+-- The piles that `publish` is given were made of sources that `index` is given: all these were read for them, and no
+-- others.
 pub record PublishesSources (given others : List Row) (old first : Held) : Type 0 where
   pub piles : List Text
   pub are : AreGivenPiles given old piles

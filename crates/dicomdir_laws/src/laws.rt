@@ -1,5 +1,6 @@
-//! What holds of every run that ends with 0, over files that say what they hold, by the clauses `indexes`, `merges`,
-//! `withdraws` and `publishes` of `run`. Each function states a law, and does nothing.
+//! What holds of every run that ends with 0, and of `publish` also where it ends with 3, over files that say what they
+//! hold, by the clauses `indexes`, `merges`, `withdraws` and `publishes` of `run`. Each function states a law, and does
+//! nothing.
 
 ghost use Rattle.std.specs.Prelude.{◌≡◌, List};
 ghost use Rattle.clap.specs.Words.{Row};
@@ -40,8 +41,9 @@ pub fn a_set_merged_again_keeps_its_directory()
         → LeaveOneDirectory verb Merge given others new last }
 {}
 
-/// Proves that publishing piles leaves the directory that an index of their sources leaves under the same label. The
-/// sources and the piles are as they were when `stage` made the piles.
+/// Proves that publishing piles leaves the directory that an index leaves, under the same label, of the sources that
+/// `stage` read: of all, or with `--keep-going` of those that it did not skip. They and the piles are as they were
+/// then.
 pub fn a_published_pile_is_the_index_of_its_sources()
     ensures { (given others : List Row) (old new first last : Held)
         → Makes Publish given old new

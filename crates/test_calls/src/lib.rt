@@ -10,4 +10,6 @@ mod images;
 #[cfg(test)]
 mod making;
 #[cfg(test)]
+mod noting;
+#[cfg(test)]
 mod reading;

@@ -37,6 +37,12 @@ v1;1..2;; > 71 0 0 0 (0000,0000) 0
 v1;1.2;; > 52 0 0 0 (0000,0000) 0
 v3;1.2;; > 62 0 0 646 (0000,0000) 0";
 
+/// The changes to V1 of an image with its UID and another name of its patient, and with another UID too.
+const OTHER_NAME: &str = "0010,0010 PN 'ROE^JANE";
+
+const OTHER_IMAGE: &str =
+    "0002,0003 UI '1.2.3.4.7~; 0008,0018 UI '1.2.3.4.7~; 0010,0010 PN 'ROE^JANE";
+
 /// The changes to V1 of an image whose study has V1's series.
 const OTHER_STUDY: &str =
     "0002,0003 UI '1.2.8.4.1~; 0008,0018 UI '1.2.8.4.1~; 0020,000D UI '1.2.8~";
@@ -154,12 +160,14 @@ fn made_in_words(alloc: Global, asked: &Asked<'_>) -> Result<String, Fail> {
 fn set_of(alloc: Global, words: &str) -> Result<Vec<u8>, Fail> {
     match words {
         "image" => directory_of(alloc, ""),
+        "named" => directory_of(alloc, OTHER_NAME),
+        "second" => directory_of(alloc, OTHER_IMAGE),
         "study" => directory_of(alloc, OTHER_STUDY),
         words => directory(alloc, words),
     }
 }
 
-fn sets_in(alloc: Global, words: &str) -> Result<Texts, Fail> {
+pub(crate) fn sets_in(alloc: Global, words: &str) -> Result<Texts, Fail> {
     let mut sets = Texts::new(alloc);
     for words in words.split('+') {
         sets.put(&set_of(alloc, words)?)?;

@@ -1,7 +1,7 @@
 //! What is read of directories: lists, rows and fronts.
 
 use crate::answers::{directory, no_answer, push_texts, words};
-use dd_calls::{Answer, ROOM, Row, front, list, rows};
+use dd_calls::{Answer, ROOM, Row, front, list, rows, spellings};
 use dd_vectors::{ask_all, push_lines, tag_of};
 use std::alloc::{AllocError, Global};
 use std::test::Fail;
@@ -186,4 +186,31 @@ fn fronts_of_directories(rt: HostRuntime) -> Result<(), Fail> {
     ask_all(rt.alloc(), FRONTS, |alloc, question| {
         front_in_words(alloc, &directory(alloc, question)?)
     })
+}
+
+/// A recorded name. Then the status and the sizes of its spellings, and each of them, or the sizes alone where the room
+/// is short of one end, or of one byte.
+const SPELLINGS: &str = "\
+IM1 > 0 36 8 0: 'IM1 'im1 'IM1.;1 'IM1;1 'IM1. 'im1.;1 'im1;1 'im1. 1 36 8 0 1 36 8 0
+A_9 > 0 36 8 0: 'A_9 'a_9 'A_9.;1 'A_9;1 'A_9. 'a_9.;1 'a_9;1 'a_9. 1 36 8 0 1 36 8 0";
+
+fn spellings_in_words(alloc: Global, name: &str) -> Result<String, Fail> {
+    let mut answer = no_answer();
+    let (mut ends, mut text) = (vec![in alloc; 0; 8]?, vec![in alloc; 0; 36]?);
+    let status = spellings(alloc, name.as_bytes(), &mut ends, &mut text, &mut answer);
+    let mut said = words(alloc, status, &answer)?;
+    said.push(':')?;
+    push_texts(alloc, &mut said, &text, &ends)?;
+    for (ends_len, text_len) in [(7, 36), (8, 35)] {
+        let (mut ends, mut text) = (vec![in alloc; 0; ends_len]?, vec![in alloc; 0; text_len]?);
+        let status = spellings(alloc, name.as_bytes(), &mut ends, &mut text, &mut answer);
+        let again = words(alloc, status, &answer)?;
+        write!(said, " {again}")?;
+    }
+    Ok(said)
+}
+
+#[test]
+fn spellings_of_names(rt: HostRuntime) -> Result<(), Fail> {
+    ask_all(rt.alloc(), SPELLINGS, spellings_in_words)
 }

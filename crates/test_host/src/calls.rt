@@ -39,6 +39,10 @@ fn error_of(verb: &str) -> Option<ErrorKind> {
         "part" => Some(ErrorKind::CrossesDevices),
         "bar" => Some(ErrorKind::PermissionDenied),
         "spoil" => Some(ErrorKind::InvalidInput),
+        "lack" => Some(ErrorKind::Unsupported),
+        "block" => Some(ErrorKind::NotADirectory),
+        "turn" => Some(ErrorKind::FilesystemLoop),
+        "stretch" => Some(ErrorKind::InvalidFilename),
         _ => None,
     }
 }
@@ -150,7 +154,10 @@ fn read(
             let (set, path) = named(what);
             files.member(set, path)
         }
-        "exact" => files.exact_file(what),
+        "exact" => {
+            let (pile, path) = named(what);
+            files.exact_file(pile, path)
+        }
         "names" => files.names(what),
         _ => files.source(what),
     };
@@ -186,11 +193,11 @@ fn second(files: &mut HostFiles<'_, DiscFiles<'_>>, what: &str) -> &'static str 
     outcome_of(files.link(set, from, path))
 }
 
-// The same, of a file that was stored. What is before the first `: ` says how many bytes it has.
+// The same, of a file of a pile. What is before the first `: ` says how many bytes it has.
 fn stored(files: &mut HostFiles<'_, DiscFiles<'_>>, what: &str) -> Result<&'static str, Fail> {
-    let (size, paths) = named(what);
-    let (from, path) = paths.split_once(" at ").unwrap_or((paths, ""));
-    Ok(outcome_of(files.link_stored(from, path, size.parse()?)))
+    let (size, rest) = named(what);
+    let (pile, from, path) = link_of(rest);
+    Ok(outcome_of(files.link_stored(pile, from, path, size.parse()?)))
 }
 
 fn yes_or_no(is_so: bool) -> &'static str {
@@ -212,6 +219,8 @@ fn counts(files: &mut HostFiles<'_, DiscFiles<'_>>, verb: &str, what: &str) -> R
         "hide" => files.hide_line(),
         "quiet" => files.silence(),
         "say" => files.show_line(&[what, "!"]),
+        "keep" => files.keep_line(&[what, "!"]),
+        "kept" => files.show_kept(),
         _ => return Ok(false),
     }
     Ok(true)

@@ -17,7 +17,7 @@ finish, store
 folder o/p/s, create o/p/s/i, write abc, finish, batch, create o/p/s/j, write abc, finish, batch, \
 folder o/p/t, create o/p/t/i, write abc, finish, batch, folder o, store, create o/DICOMDIR, write xyz, finish, store
 file d/A, folder o/p/s, second d: d/A at o/p/s/A, batch, folder o, store, create o/DICOMDIR, write xyz, finish, store
-folder p, create p/A, write abc, finish, store, folder o/s, stored 3: p/A at o/s/A, batch, folder o, store, \
+folder p, create p/A, write abc, finish, store, folder o/s, stored 3: p: p/A at o/s/A, batch, folder o, store, \
 create o/DICOMDIR, write xyz, finish, store
 folder o/p/s, create o/p/s/i, write abc, finish, folder o, create o/DICOMDIR, write xyz, finish, store
 limit 1, folder o/p/s, create o/p/s/i, write abc, finish, batch, folder o/q/s, create o/q/s/i, write abc, finish, \

@@ -46,8 +46,15 @@ create a, write xyz, fail store, finish, batch, store, create DICOMDIR, unstored
 create DICOMDIR, write xyz, fail store, finish, store, unstored, read DICOMDIR > + + . + - DICOMDIR xyz > none
 folder d, fail store, store, unstored, finish > + . - . - > none
 folder d/e, fail open, store, unstored > + . - . > none
-folder d/e, bar open, store > + . + > none
+folder d/e, bar open, store, unstored > + . - . > none
+folder d/e, spoil open, store, unstored > + . - . > none
+folder d/e, lack open, store, unstored > + . - . > none
+folder d/e, bar look, store, unstored > + . - . > none
+folder d/e, bar store, store, unstored > + . - . > none
 folder d/e, spoil store, store > + . + > none
+folder d/e, lack store, store > + . + > none
+dir o, folder o, bar open, create o/DICOMDIR, unstored, read o/DICOMDIR > . + . - o - > none
+create DICOMDIR, write xyz, lack store, finish, store, unstored > + + . + - DICOMDIR > none
 create a, write xyz, fail write, finish, finish > + + . - - >
 create a, fail write, fill, write xyz, fill, finish > + . - - - - >";
 
@@ -77,18 +84,23 @@ dir o, file d/A, second d: d/A at o/A, second d: d/A at o/B, batch, create o/DIC
 file d/A, second d: d/A at DICOMDIR, store > . + + > link DICOMDIR, store DICOMDIR, store .
 file d/A, fail open, second d: d/A at a, create b, finish, batch, store > . . -absent + + + + > \
 link a, make b, store b, store .
-dir o, file d/A, stored 3: d/A at o/A, store > . . + + > link o/A, store o
-dir o, file d/A, stored 3: d/A at o/A, stored 3: d/A at o/B, batch, create o/DICOMDIR, finish, store > \
+dir o, file d/A, stored 3: d: d/A at o/A, store > . . + + > link o/A, store o
+dir o, file d/A, stored 3: d: d/A at o/A, stored 3: d: d/A at o/B, batch, create o/DICOMDIR, finish, store > \
 . . + + + + + + > link o/A, link o/B, store o, make o/DICOMDIR, store o/DICOMDIR, store o
-dir o, file d/A, file d/B, stored 3: d/A at o/A, second d: d/B at o/B, store > . . . + + + > \
+dir o, file d/A, file d/B, stored 3: d: d/A at o/A, second d: d/B at o/B, store > . . . + + + > \
 link o/A, link o/B, store o/B, store o
-dir o, file d/A, stored 2: d/A at o/A, folder f, store > . . -changed + + > folder f, store .
-dir o, file d/A, fail store, stored 3: d/A at o/A, store, unstored > . . . + - o > link o/A
+dir o, file d/A, stored 2: d: d/A at o/A, folder f, store > . . -changed + + > folder f, store ., store f
+dir o, file d/A, fail store, stored 3: d: d/A at o/A, store, unstored > . . . + - o > link o/A
 folder d, folder d, folder e, folder d, folder d > + + + + + > folder d, folder e, folder d
-folder d/e, folder d/f, store > + + + > folder d, folder d/e, folder d, folder d/f, store ., store d
+folder d/e, folder d/f, store > + + + > folder d, folder d/e, folder d, folder d/f, store ., store d, \
+store d/e, store d/f
+dir o, folder o, create o/DICOMDIR, finish, store > . + + + + > \
+folder o, store o, make o/DICOMDIR, store o/DICOMDIR, store o
+dir o, folder o/, store > . + + > folder o, folder o/, store ., store o
+folder , create DICOMDIR > + + > store ., make DICOMDIR
 fail folder, folder d, folder d, folder d > . - + + > folder d
-pause folder, folder d, store > . + + > folder d, store .
-pause made, folder d, store > . + + > folder d, folder d, store .";
+pause folder, folder d, store > . + + > folder d, store ., store d
+pause made, folder d, store > . + + > folder d, folder d, store ., store d";
 
 fn is_right(alloc: Global, case: &str) -> Result<bool, Fail> {
     let (calls, wanted) = case.split_once(" > ").ok_or("no answers")?;

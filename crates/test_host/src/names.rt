@@ -11,13 +11,20 @@ use std::test::Fail;
 // path.
 const CASES: &str = "\
 file d/DICOMDIR, find d: d/DICOMDIR > . old
-file d/A, exact d/A > . old
-file d/a, file d/A;1, exact d/A > . . -
-link d/A, exact d/A > . -
-silent d/A, exact d/A > . 
-pipe d/A, exact d/A > . -
-dir d/A, exact d/A > . !
-file d/A, limit 0, exact d/A > . . -
+file d/A, exact d: d/A > . old
+file d/a, file d/A;1, exact d: d/A > . . -
+link d/A, exact d: d/A > . -
+silent d/A, exact d: d/A > . 
+pipe d/A, exact d: d/A > . -
+dir d/A, exact d: d/A > . !
+file d/A, limit 0, exact d: d/A > . . -
+link d, file d/A, exact d: d/A > . . old
+dir d/0, file d/0/A, exact d: d/0/A, exact d/: d/0/A > . . old old
+link d/0, file d/0/A, exact d: d/0/A, exact d/0: d/0/A > . . - old
+dir d/P, link d/P/Q, file d/P/Q/A, exact d: d/P/Q/A > . . . -
+dir d/p, file d/p/A, find d: d/P/A, exact d: d/P/A, find d: d/P/A > . . old - old
+dir d/P, file d/P/a, find d: d/P/A, exact d: d/P/A > . . old -
+exact d: d/P/A, dir d/P, file d/P/A, exact d: d/P/A > - . . old
 file d/dicomdir, find d: d/DICOMDIR > . old
 file d/DICOMDIR.;1, find d: d/DICOMDIR > . old
 file d/DICOMDIR;1, find d: d/DICOMDIR > . old
@@ -84,23 +91,24 @@ dir o, file d/A, create a, write x, second d: d/A at o/A, finish, read a > . . +
 
 // The same, of files that were stored before.
 const STORED: &str = "\
-dir o, file d/A, stored 3: d/A at o/A, read o/A, read d/A > . . + old old
-dir o, file d/a.;1, stored 3: d/A at o/A, stored 3: d/a.;1 at o/A, read o/A > . . -absent + old
-dir o, file d/A, stored 2: d/A at o/A, stored 4: d/A at o/A, free o/A > . . -changed -changed yes
-dir o, silent d/A, stored 3: d/A at o/A, stored 0: d/A at o/A > . . -changed +
-dir o, file d/A, also o/A, stored 3: d/A at o/A, stored 2: d/A at o/A, read o/A > . . . -taken -changed two
-dir o, dir d/A, stored 3: d/A at o/A, stored 0: d/A at o/A, stored 3: d/B at o/A > . . -absent -absent -absent
-dir o, link d/A, stored 0: d/A at o/A > . . -absent
-dir o, pipe d/A, stored 0: d/A at o/A > . . -absent
-dir o, link d/P, file d/P/A, stored 3: d/P/A at o/A > . . . +
-file d/A, stored 3: d/A at o/A, dir o, stored 3: d/A at o/A > . -refused . +
-dir o, file d/A, part link, stored 3: d/A at o/A, free o/A > . . . -refused yes
-dir o, file d/A, bar link, stored 3: d/A at o/A, cause > . . . -refused Permission denied
-dir o, file d/A, pause link, stored 3: d/A at o/A > . . . +
-dir o, file d/A, pause made, stored 3: d/A at o/A, stored 3: d/A at o/A > . . . + -taken
-dir o, file d/A, dir o/A, pause link, stored 3: d/A at o/A > . . . . -absent
-dir o, file d/A, limit 0, fail open, fail store, stored 3: d/A at o/A, batch > . . . . . + +
-dir o, file d/A, create a, write x, stored 3: d/A at o/A, finish, read a > . . + + + + x";
+dir o, file d/A, stored 3: d: d/A at o/A, read o/A, read d/A > . . + old old
+dir o, file d/a.;1, stored 3: d: d/A at o/A, stored 3: d: d/a.;1 at o/A, read o/A > . . -absent + old
+dir o, file d/A, stored 2: d: d/A at o/A, stored 4: d: d/A at o/A, free o/A > . . -changed -changed yes
+dir o, silent d/A, stored 3: d: d/A at o/A, stored 0: d: d/A at o/A > . . -changed +
+dir o, file d/A, also o/A, stored 3: d: d/A at o/A, stored 2: d: d/A at o/A, read o/A > . . . -taken -changed two
+dir o, dir d/A, stored 3: d: d/A at o/A, stored 0: d: d/A at o/A, stored 3: d: d/B at o/A > . . -absent -absent -absent
+dir o, link d/A, stored 0: d: d/A at o/A > . . -absent
+dir o, pipe d/A, stored 0: d: d/A at o/A > . . -absent
+dir o, link d/P, file d/P/A, stored 3: d: d/P/A at o/A, stored 3: d/P: d/P/A at o/A > . . . -absent +
+dir o, dir d/p, file d/p/A, stored 3: d: d/P/A at o/A > . . . -absent
+file d/A, stored 3: d: d/A at o/A, dir o, stored 3: d: d/A at o/A > . -refused . +
+dir o, file d/A, part link, stored 3: d: d/A at o/A, free o/A > . . . -refused yes
+dir o, file d/A, bar link, stored 3: d: d/A at o/A, cause > . . . -refused Permission denied
+dir o, file d/A, pause link, stored 3: d: d/A at o/A > . . . +
+dir o, file d/A, pause made, stored 3: d: d/A at o/A, stored 3: d: d/A at o/A > . . . + -taken
+dir o, file d/A, dir o/A, pause link, stored 3: d: d/A at o/A > . . . . -absent
+dir o, file d/A, limit 0, fail open, fail store, stored 3: d: d/A at o/A, batch > . . . . . + +
+dir o, file d/A, create a, write x, stored 3: d: d/A at o/A, finish, read a > . . + + + + x";
 
 // In each line calls, and then their outcomes.
 const FREE: &str = "\
@@ -110,6 +118,8 @@ link a, free a, pipe b, free b > . no . no
 silent a, free a > . no
 fail look, free a, cause, free a > . no Input/output error yes
 bar look, free a, cause > . no Permission denied
+block look, free a/b, turn look, free a/b, stretch look, free a > . yes . yes . yes
+lack look, free a, spoil look, free a > . no . no
 pause look, free a, pause look, file a, free a, cause > . yes . . no ";
 
 // In each line calls, and then the paths that they looked at.
@@ -117,7 +127,9 @@ const LOOKS: &str = "\
 find d: d/PT1/IM1 > d/PT1, d/pt1, d/PT1.;1, d/PT1;1, d/PT1., d/pt1.;1, d/pt1;1, d/pt1.
 dir d/P, file d/P/A, file d/P/B, find d: d/P/A, find d: d/P/B > d/P, d/P/A, d/P/B
 dir d/p, file d/p/a, file d/p/b, find d: d/P/A, find d: d/P/B > d/P, d/p, d/p/A, d/p/a, d/p/B, d/p/b
-dir o, dir d/P, file d/P/A, stored 3: d/P/A at o/A, stored 3: d/P/A at o/B > d/P/A, o/A, d/P/A, o/B
+dir o, dir d/P, file d/P/A, stored 3: d: d/P/A at o/A, stored 3: d: d/P/A at o/B > \
+d/P, d/P/A, o/A, d/P/A, o/B
+dir d/P, file d/P/A, exact d: d/P/A, exact d: d/P/B, exact d: d/Q/A > d/P, d/P/A, d/P/B, d/Q
 dir d/P, file d/P/A, find d: d/P/A, find d: d/P/A, find d: d/Q/A > \
 d/P, d/P/A, d/P/A, d/Q, d/q, d/Q.;1, d/Q;1, d/Q., d/q.;1, d/q;1, d/q.";
 

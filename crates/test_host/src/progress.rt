@@ -20,6 +20,7 @@ reading 2, pass 600, copying 20000, advance, pass 100, advance > <copying 0 of 2
 reading 3, pass 600, quiet, advance, hide >
 reading 3, pass 600, advance, quiet, pass 100, advance, hide > <reading 1 of 3^[K<^[K
 reading 3, pass 600, advance, say word, say word, quiet, say word > <reading 1 of 3^[K<^[Kword!|word!|word!|
+reading 3, keep one, pass 600, advance, keep two, kept, say word, kept > <reading 1 of 3^[K<^[Kone!|two!|word!|
 quiet, reading 3, pass 600, advance >
 reading 3, pass 600, fail show, advance, pass 100, advance > <reading 2 of 3^[K
 reading 3, pass 600, pause show, advance > <reading 1 of 3^[K

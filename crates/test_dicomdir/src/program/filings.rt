@@ -2,12 +2,12 @@
 
 use crate::program::copies::sent_of;
 use dd_elem::SetId;
-use dd_layout::Limits;
+use dd_layout::{Limits, Plan};
 use dd_vectors::{
     ByteSource, Sink, ask_all, failing, first_directory, put_words, refuse_allocation, require, v1,
     was_refused,
 };
-use dicomdir::{Choice, Filed, file_image, merge_engine};
+use dicomdir::{Choice, Filed, Wanted, file_image, merge_engine};
 use std::alloc::Global;
 use std::test::Fail;
 
@@ -54,6 +54,15 @@ fn limits() -> Result<Limits, Fail> {
     Ok(Limits::new(u32::MAX, 1).ok_or("no limits")?)
 }
 
+// The first version of the plan, whose keys in harmony are not compared.
+fn wanted_of(plan: &Plan) -> Result<Wanted<'_>, Fail> {
+    let planned = plan.versions().first().ok_or("no version")?;
+    Ok(Wanted {
+        planned,
+        said: None,
+    })
+}
+
 fn filed(alloc: Global, question: &str) -> Result<String, Fail> {
     let (name, rest) = question.split_once(' ').ok_or("no image")?;
     let (piece, rest) = rest.split_once(' ').ok_or("no piece")?;
@@ -63,11 +72,11 @@ fn filed(alloc: Global, question: &str) -> Result<String, Fail> {
     let directory = directory(alloc, changes)?;
     let sets = [directory.as_slice()];
     let merged = merge_engine(alloc, &sets, &choice()?, limits()?)?;
-    let planned = merged.plan.versions().first().ok_or("no version")?;
+    let wanted = wanted_of(&merged.plan)?;
     let image = image(alloc, name)?;
     let mut source = ByteSource::new(&image, piece.parse()?, failing(reader)?);
     let mut sink = Sink::new(alloc, failing(writer)?);
-    let said = match file_image(alloc, &mut source, &mut sink, planned, limit.parse()?) {
+    let said = match file_image(alloc, &mut source, &mut sink, &wanted, limit.parse()?) {
         Ok(filed) => format!(in alloc; "{filed:?}")?,
         Err(fault) => format!(in alloc; "{fault}")?,
     };
@@ -86,19 +95,19 @@ pub(crate) fn filing_refused(alloc: Global, chosen: u32) -> Result<bool, Fail> {
     let directory = first_directory(alloc)?;
     let sets = [directory.as_slice()];
     let merged = merge_engine(alloc, &sets, &choice()?, limits()?)?;
-    let planned = merged.plan.versions().first().ok_or("no version")?;
+    let wanted = wanted_of(&merged.plan)?;
     let image = v1(alloc)?;
     let mut source = ByteSource::new(&image, 100, None);
     let mut sink = Sink::new(alloc, None);
     refuse_allocation(alloc, chosen)?;
-    let answer = file_image(alloc, &mut source, &mut sink, planned, 454);
+    let answer = file_image(alloc, &mut source, &mut sink, &wanted, 454);
     let refused = was_refused(alloc, answer.is_err())?;
     require(image.starts_with(sink.bytes()), "the writer holds a front")?;
     let filed = match answer {
         Ok(filed) => filed,
         Err(_) => {
             let mut source = ByteSource::new(&image, 100, None);
-            file_image(alloc, &mut source, &mut sink, planned, 454)?
+            file_image(alloc, &mut source, &mut sink, &wanted, 454)?
         }
     };
     require(filed == Filed::AsPlanned, "V1 is filed as planned")?;

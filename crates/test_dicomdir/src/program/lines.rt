@@ -31,6 +31,8 @@ dicomdir index --max-bytes 650M set image.dcm > Index - - 681574400 set image.dc
 dicomdir merge --max-bytes=3G set a > Merge - - 3221225472 set a
 dicomdir withdraw --max-bytes 4194303K out set 1.2 > Withdraw - - 4294966272 out set without 1.2
 dicomdir index --max-bytes +007K set image.dcm > Index - - 7168 set image.dcm
+dicomdir index --max-bytes 64k set image.dcm > Index - - 65536 set image.dcm
+dicomdir merge --max-bytes=4194303k set a > Merge - - 4294966272 set a
 dicomdir index --max-bytes=-0G set image.dcm > Index - - 0 set image.dcm
 dicomdir index --strict set image.dcm > Index - - 4294967295 set image.dcm with strict
 dicomdir index set b.dcm --strict a.dcm --max-bytes 7 > Index - - 7 set b.dcm a.dcm with strict
@@ -41,6 +43,7 @@ dicomdir index --files0-from=- set b.dcm a.dcm > Index - - 4294967295 set b.dcm 
 dicomdir index --files0-from '' set > Index - - 4294967295 set from ''
 dicomdir index --dry-run set --quiet image.dcm > Index - - 4294967295 set image.dcm with dry-run with quiet
 dicomdir index --verbose set image.dcm > Index - - 4294967295 set image.dcm with verbose
+dicomdir index -k set image.dcm > Index - - 4294967295 set image.dcm with keep-going
 dicomdir index set --json image.dcm > Index - - 4294967295 set image.dcm with json
 dicomdir index -- set --json > Index - - 4294967295 set --json
 dicomdir merge set a > Merge - - 4294967295 set a
@@ -64,6 +67,8 @@ dicomdir stage --files0-from list --from folder pile --quiet > \
 Stage - - 4294967295 pile from list below folder with quiet
 dicomdir stage pile b.dcm a.dcm --json --verbose > Stage - - 4294967295 pile b.dcm a.dcm with verbose with json
 dicomdir stage -- pile --from > Stage - - 4294967295 pile --from
+dicomdir stage -k pile a.dcm > Stage - - 4294967295 pile a.dcm with keep-going
+dicomdir stage pile a.dcm --keep-going --from f > Stage - - 4294967295 pile a.dcm below f with keep-going
 dicomdir publish out pile > Publish - - 4294967295 out pile
 dicomdir publish --link --from '' out b a --id A --max-bytes 1K > Publish A - 1024 out b a below '' with link
 dicomdir publish out --files0-from list --strict --dry-run --uid 1.2 > \
@@ -99,11 +104,14 @@ dicomdir index --max-bytes 1e3 set image.dcm > 2 true
 dicomdir index --max-bytes 4G set image.dcm > 2 true
 dicomdir merge --max-bytes 4096M set a > 2 true
 dicomdir withdraw --max-bytes 4194304K out set 1.2 > 2 true
+dicomdir index --max-bytes 4194304k set image.dcm > 2 true
+dicomdir index --max-bytes k set image.dcm > 2 true
 dicomdir index --max-bytes 18446744073709551617K set image.dcm > 2 true
 dicomdir index --max-bytes K set image.dcm > 2 true
 dicomdir index --max-bytes 1KM set image.dcm > 2 true
 dicomdir index --max-bytes 1KB set image.dcm > 2 true
 dicomdir index --max-bytes 1m set image.dcm > 2 true
+dicomdir index --max-bytes 1g set image.dcm > 2 true
 dicomdir index --max-bytes 1.5G set image.dcm > 2 true
 dicomdir index --max-bytes '1 K' set image.dcm > 2 true
 dicomdir index --max-bytes=-1K set image.dcm > 2 true
@@ -158,7 +166,7 @@ dicomdir stage --from folder pile > 2 true
 dicomdir stage --strict pile a.dcm > 2 true
 dicomdir stage --dry-run pile a.dcm > 2 true
 dicomdir stage --link pile a.dcm > 2 true
-dicomdir stage -k pile a.dcm > 2 true
+dicomdir stage -k -k pile a.dcm > 2 true
 dicomdir stage --id A pile a.dcm > 2 true
 dicomdir stage --max-bytes 7 pile a.dcm > 2 true
 dicomdir stage --from a --from b pile a.dcm > 2 true
@@ -252,6 +260,7 @@ fn push_flags(text: &mut String, asked: &Asked) -> Result<(), Fail> {
     push_flag(text, asked.verbose, " with verbose")?;
     push_flag(text, asked.long, " with long")?;
     push_flag(text, asked.link, " with link")?;
+    push_flag(text, asked.keep_going, " with keep-going")?;
     push_flag(text, asked.json, " with json")
 }
 

@@ -149,7 +149,7 @@ fn allocations_of_fail_read(rt: HostRuntime) -> Result<(), Fail> {
 fn open(files: &mut MemFiles, call: Call) -> Result<MemReader, NotThere> {
     match call {
         Call::Member => files.member("", "note.txt"),
-        Call::Exact => files.exact_file("note.txt"),
+        Call::Exact => files.exact_file("", "note.txt"),
         Call::Names => files.names("note.txt"),
         _ => files.source("note.txt"),
     }

@@ -31,6 +31,12 @@ full=set: - - dicomdir stage p a.dcm --files0-from nowhere > 1 [] [FAULT nowhere
 full=set: - - dicomdir stage '' '' > 1 [] [FAULT : 95 Folder|] kept
 full=set: - - dicomdir stage full a.dcm '' > 1 [] [FAULT : 92 Absent|] kept
 full=set: 0 - dicomdir stage p a.dcm > 1 [] [] changed
+full=set: - - dicomdir stage p none.dcm b.dcm a.dcm -k > 3 [DONE 3 sources, 2 skipped, 454 bytes of images|] [] changed
+unread a.dcm: - - dicomdir stage p a.dcm d.dcm --keep-going > 3 [DONE 2 sources, 1 skipped, 454 bytes of images|] \
+[] changed
+full=set: - - dicomdir stage p none.dcm --files0-from latin -k > 3 [DONE 3 sources, 2 skipped, 454 bytes of images|] \
+[] changed
+full=set: - - dicomdir stage p a.dcm --keep-going > 0 [DONE 1 sources, 0 skipped, 454 bytes of images|] [] changed
 full=set: - - dicomdir stage full a.dcm --verbose > 1 [] [FAULT full: 94 Create|  \
 help: take a new folder: PILE is there, maybe from an earlier run|] kept";
 
@@ -66,7 +72,7 @@ stage p a.dcm; p/STAGED=note.txt: - - dicomdir publish o p > 1 [] [FAULT p: 66 B
 stage p a.dcm; stage q a.dcm; q/STAGED=q/STAGED,8,00: - - dicomdir publish o p q/ > \
 1 [] [FAULT q/: 66 BadStage 0|] kept
 stage p a.dcm; q/STAGED=p/STAGED,30,02: - - dicomdir publish o p q > 1 [] [FAULT q: 66 BadStage 0|] kept
-stage p a.dcm; q/STAGED=p/STAGED,94,'x: - - dicomdir publish o p q > 1 [] [FAULT q: 66 BadStage 1|] kept
+stage p a.dcm; q/STAGED=p/STAGED,94,'x: - - dicomdir publish o p q > 1 [] [FAULT q: 66 BadStage 0|] kept
 stage p a.dcm: - - dicomdir publish full nowhere > 1 [] [FAULT full/DICOMDIR: 94 Create|] kept
 stage p a.dcm: - - dicomdir publish full p '' > 1 [] [FAULT : 92 Absent|] kept
 stage p a.dcm: - - dicomdir publish '' p > 1 [] [FAULT : 95 Folder|] kept
@@ -78,7 +84,7 @@ stage p b.dcm a.dcm; p/000/000002=note.txt: - - dicomdir publish o p/ > \
 1 [SKIP b.dcm: 32 NotImage 1.2.840.10008.5.1.4.1.1.88.11|] [FAULT p/000/000002: 97 Changed|] changed
 stage p a.dcm; unread p/000/000001: - - dicomdir publish o p > 1 [] [FAULT p/000/000001: 93 Unread|] changed
 p/STAGED=note.txt: - - dicomdir publish o p --verbose > 1 [] [FAULT p: 66 BadStage 0|  \
-help: its stage has not ended with status 0: remove the pile and stage it anew|] kept
+help: its list is not whole, or was changed: remove the pile and stage it anew|] kept
 stage p a.dcm; p/000/000001=c.dcm: - - dicomdir publish o p --verbose > 1 [] [FAULT p/000/000001: 97 Changed|  \
 help: the pile was changed: remove it and stage its sources anew|] changed
 full=set: - - dicomdir publish o p --verbose > 1 [] [FAULT p/STAGED: 92 Absent|  \

@@ -2,7 +2,7 @@ use Rattle.std.proofs.Common.{◌++◌, ap, ◌∙◌}
 use Rattle.sha2.specs.Sha256.{sha256}
 use Rattle.dd_elem.specs.Digests.{uid_of_digest}
 use Rattle.dd_dir.specs.Directories.{directory_of}
-use Rattle.dd_dir.specs.Hashing.{Hashing}
+use Rattle.dd_hashing.specs.Hashing.{Hashing}
 use Rattle.dd_dir.proofs.derived.uid_of.Goals as goal
 
 pub returns : goal.returns

@@ -16,6 +16,7 @@ loop-record-preserved g c =
       has = c.in_ok-copy_record.ensures.has cc;
       made = so_far_more
           (g.O.Origins.stands_at c.args.set.now.origins.now) (g.O.Origins.may_link c.args.set.now.origins.now)
+          (g.O.Origins.said c.args.set.now.origins.now)
           c.args.set.now.folder.now c.args.set.now.plan.now.versions c.records-record-items.result.now
           c.args.set.now.picks.now
           c.loop-record.record-index c.record-item.result c.loop-record.left.picks.now
@@ -47,12 +48,14 @@ returns-in_err-copy_record-clause-changed g c =
       c.in_err-copy_record.was,
     ) in
     rw is (changed_by
-    (HasUnfitFirst (g.O.Origins.stands_at origins) (g.O.Origins.may_link origins) (g.O.Origins.gives_links origins)
+    (HasUnfitFirst (g.O.Origins.stands_at origins) (g.O.Origins.may_link origins) (g.O.Origins.said origins)
+    (g.O.Origins.gives_links origins)
     set.plan.now.versions c.record-item.result left (g.F.Files.held c.loop-record.files)) _ refusal.fault
     (λ has. subst (λ (all : List PlanRecord). HasUnfitPick (g.O.Origins.stands_at origins)
-    (g.O.Origins.may_link origins) (g.O.Origins.gives_links origins) set.plan.now.versions
+    (g.O.Origins.may_link origins) (g.O.Origins.said origins) (g.O.Origins.gives_links origins) set.plan.now.versions
     (zip (named all) set.picks.now) (g.F.Files.held c.copy_record.new.files)) c.records-record-items.ensures.all
-    (unfit_pick (g.O.Origins.stands_at origins) (g.O.Origins.may_link origins) (g.O.Origins.gives_links origins)
+    (unfit_pick (g.O.Origins.stands_at origins) (g.O.Origins.may_link origins) (g.O.Origins.said origins)
+    (g.O.Origins.gives_links origins)
     set.plan.now.versions rows set.picks.now left c.loop-record.record-index c.record-item.result
     (IsImagePath set.folder.now) _ _ (omega (arith, c.loop-record-test.true)) c.loop-record.invariant.made.rest
     c.copy_record.ensures.adds (rw (← c.record-item.is) has)))

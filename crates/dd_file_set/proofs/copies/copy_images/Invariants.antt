@@ -12,6 +12,7 @@ abbrev pub invariant-loop-record : goal.invariant-loop-record
 invariant-loop-record g l = record {
   has : All (λ pick. g.O.Origins.number pick < g.O.Origins.count l.set.origins.now) l.left.picks.now;
   made : SoFar (g.O.Origins.stands_at l.set.origins.now) (g.O.Origins.may_link l.set.origins.now)
+      (g.O.Origins.said l.set.origins.now)
       l.set.folder.now l.set.plan.now.versions l.record-items l.set.picks.now l.record-index l.left.picks.now
       (g.F.Files.held l.initial.files) (g.F.Files.held l.files);
   known : KnowsNext (g.O.Origins.stands_at l.set.origins.now) l.left.picks.now l.left.ahead (g.F.Files.held l.files);

@@ -11,6 +11,7 @@ use Rattle.dd_file_set.proofs.copies.copy_record.Goals as goal
 pub returns-in_ok-make_image-in-Some-len1-up-clause-copied : goal.returns-in_ok-make_image-in-Some-len1-up-clause-copied
 returns-in_ok-make_image-in-Some-len1-up-clause-copied g c = λ done.
     copies_one (g.O.Origins.stands_at c.args.set.now.origins.now) (g.O.Origins.may_link c.args.set.now.origins.now)
+    (g.O.Origins.said c.args.set.now.origins.now)
     c.args.set.now.folder.now c.args.set.now.plan.now.versions c.args.row.now c.args.left.now.picks.now
     c.pick-item.result _ _
     c.in-Some-len1-up.len_at_least (record {
@@ -42,7 +43,7 @@ make_image-requires-clause-known g c =
 
 pub returns-in_ok-make_image-in-Some-len1-up-clause-known : goal.returns-in_ok-make_image-in-Some-len1-up-clause-known
 returns-in_ok-make_image-in-Some-len1-up-clause-known g c = λ done.
-    passed_known (g.O.Origins.stands_at c.args.set.now.origins.now) c.args.left.now.picks.now _ _ _ _ _ _ _ _ _
+    passed_known (g.O.Origins.stands_at c.args.set.now.origins.now) c.args.left.now.picks.now _ _ _ _ _ _ _ _ _ _
     c.in-Some-len1-up.len_at_least c.pass.ensures (c.in_ok-make_image-in-Some-len1-up.ensures.made cc)
     c.read_ahead.ensures.known
 
@@ -57,9 +58,10 @@ returns-in_err-make_image-in-Some-len1-up-clause-changed g c =
     let refusal = c.in_err-make_image-in-Some-len1-up.field-0.0 in
     let is : c.from_residual.result ≡ Err refusal = search rules in
     rw is (changed_by
-    (HasUnfit (g.O.Origins.stands_at origins pick) (g.O.Origins.may_link origins pick) (g.O.Origins.gives_links origins)
+    (HasUnfit (g.O.Origins.stands_at origins pick) (g.O.Origins.may_link origins pick) (g.O.Origins.said origins pick)
+    (g.O.Origins.gives_links origins)
     planned held) _ refusal.fault
-    (λ has. unfit_first (g.O.Origins.stands_at origins) (g.O.Origins.may_link origins)
+    (λ has. unfit_first (g.O.Origins.stands_at origins) (g.O.Origins.may_link origins) (g.O.Origins.said origins)
     (g.O.Origins.gives_links origins) set.plan.now.versions c.args.row.now c.args.left.now.picks.now pick planned held
     c.in-Some-len1-up.len_at_least (ap is_some c.in-Some-len1-up.is-0)
     (slice_get_read set.plan.now.versions (length set.plan.now.versions) c.args.row.now.of planned refl

@@ -27,9 +27,10 @@ returns-in-Ok-clause-made g c = λ done.
       free = rw c.in_ok-reader.ensures.kept at start.free;
       of = one_given (g.O.Origins.stands_at c.args.image.now.origins.now c.args.image.now.pick) opened.from
           (g.F.Files.held c.args.files.now) _ _ h.given opened.picked opened.unread.left h.known h.answered.1.0.1;
-      is = subst (λ (filed : Filed). IsFileAs c.args.image.now.planned.now filed h.given)
+      is = subst (λ (filed : Filed). IsFileAs c.args.image.now.planned.now
+          (g.O.Origins.said c.args.image.now.origins.now c.args.image.now.pick) filed h.given)
           (c.end_copy.ensures.planned done)
-          h.answered.0;
+          (rw (c.wanted.ensures.planned, c.wanted.ensures.said) at h.answered.0);
       made = held_published start.path h.given _ _ _ _ (rw c.in_ok-reader.ensures.kept at start.started)
           (g.met.F.Files.written_grows _ _ h.given went.stays went.holds) (c.end_copy.ensures.ended done);
     }
@@ -81,10 +82,12 @@ returns-in-Ok-clause-changed g c =
     let opened = c.in_ok-reader.ensures.opened in
     refused_by c.end_copy.result (c.in-Ok.filed ≢ AsPlanned) _
     (other_file (g.O.Origins.stands_at origins image.pick) (g.O.Origins.may_link origins image.pick)
+    (g.O.Origins.said origins image.pick)
     (g.O.Origins.gives_links origins) image.planned.now held h.given c.in-Ok.filed
     (one_given (g.O.Origins.stands_at origins image.pick) opened.from held _ _ h.given opened.picked opened.unread.left
     h.known h.answered.1.0.1)
-    (λ is. c.one_filed.ensures image.planned.now h.given c.in-Ok.filed AsPlanned h.answered.0 is))
+    (λ is. c.one_filed.ensures image.planned.now (g.O.Origins.said origins image.pick) h.given c.in-Ok.filed AsPlanned
+    (rw (c.wanted.ensures.planned, c.wanted.ensures.said) at h.answered.0) is))
     c.end_copy.ensures.changed
 
 pub returns-clause-changed : goal.returns-clause-changed
@@ -95,6 +98,7 @@ returns-clause-changed g c =
     let opened = c.in_ok-reader.ensures.opened in
     changed_by (c.in-Err.fault ≡ copy.Changed) _ c.refusal_of.result.fault
     (λ is. long_file (g.O.Origins.stands_at origins image.pick) (g.O.Origins.may_link origins image.pick)
+    (g.O.Origins.said origins image.pick)
     (g.O.Origins.gives_links origins) image.planned.now opened.from (g.F.Files.held c.args.files.now) _ _ h.given
     opened.picked opened.unread.left h.known
     (omega (arith, too_long g.F.Write _ _ c.in-Err.fault _ h.given _ _ _ is h.answered)))

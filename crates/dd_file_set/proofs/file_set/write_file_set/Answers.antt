@@ -41,6 +41,7 @@ pub returns-in-Err-clause-last : goal.returns-in-Err-clause-last
 returns-in-Err-clause-last g c =
     let is = c.in_ok-path.ensures in
     images_then (g.O.Origins.stands_at c.args.set.now.origins.now) (g.O.Origins.may_link c.args.set.now.origins.now)
+    (g.O.Origins.said c.args.set.now.origins.now)
     c.args.set.now.folder.now c.args.set.now.plan.now c.args.set.now.picks.now c.as_str.result.now
     (rw c.as_str.ensures.value (record { bare = is.bare; ended = is.ended; apart = is.apart })) _ _ _ _
     (c.in_ok-copy_images.ensures.made cc) (rw c.folder.ensures.kept at c.in_ok-store.ensures.stored cc)
@@ -51,6 +52,7 @@ returns-in_err-store-2-clause-last g c =
     let is = c.in_ok-path.ensures in
     rw (c.in_err-store-2.ensures.kept cc)
     (images_then (g.O.Origins.stands_at c.args.set.now.origins.now) (g.O.Origins.may_link c.args.set.now.origins.now)
+    (g.O.Origins.said c.args.set.now.origins.now)
     c.args.set.now.folder.now c.args.set.now.plan.now c.args.set.now.picks.now c.as_str.result.now
     (rw c.as_str.ensures.value (record { bare = is.bare; ended = is.ended; apart = is.apart })) _ _ _ _
     (c.in_ok-copy_images.ensures.made cc) (rw c.folder.ensures.kept at c.in_ok-store.ensures.stored cc)
@@ -60,7 +62,7 @@ pub returns-clause-last : goal.returns-clause-last
 returns-clause-last g c =
     let is = c.in_ok-path.ensures in
     images_then_stored (g.O.Origins.stands_at c.args.set.now.origins.now)
-    (g.O.Origins.may_link c.args.set.now.origins.now)
+    (g.O.Origins.may_link c.args.set.now.origins.now) (g.O.Origins.said c.args.set.now.origins.now)
     c.args.set.now.folder.now c.args.set.now.plan.now c.args.set.now.picks.now c.as_str.result.now
     (rw c.as_str.ensures.value (record { bare = is.bare; ended = is.ended; apart = is.apart })) _ _ _ _ _
     (c.in_ok-copy_images.ensures.made cc) (rw c.folder.ensures.kept at c.in_ok-store.ensures.stored cc)

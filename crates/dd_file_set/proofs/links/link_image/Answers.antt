@@ -84,6 +84,7 @@ returns-in-Err-clause-changed g c =
     let pick = c.args.image.now.pick in
     changed_by (c.in-Err.fault ≡ link.Changed) _ c.refusal_of.result.fault
     (λ is. unlinked_file (g.O.Origins.stands_at origins pick) (g.O.Origins.may_link origins pick)
+    (g.O.Origins.said origins pick)
     (g.O.Origins.gives_links origins) c.args.image.now.planned.now c.as_str.result.now (g.F.Files.held c.args.files.now)
     (λ bytes. ¬ IsAsStored c.lookup-lookup.result bytes) (rw c.as_str.ensures.value (c.in_ok-from.ensures c.requires))
     (c.gives_links.ensures cc) (λ bytes not may. not (c.lookup-lookup.ensures.stored bytes may))

@@ -8,5 +8,6 @@ pub returns : goal.returns
 returns c =
     let start = shows_same _ _ _ _ c.after_help-command.ensures refl refl c.in_ok-showing_command.ensures in
     let names = with_arg _ _ _ _ _ start c.files0_from.ensures c.in_ok-arg.ensures in
-    IfOk-weaker c.arg-2.result _ _
-    (λ command adds. with_arg _ _ _ _ _ names c.from.ensures adds) c.arg-2.ensures
+    let from = with_arg _ _ _ _ _ names c.from.ensures c.in_ok-arg-2.ensures in
+    IfOk-weaker c.arg-3.result _ _
+    (λ command adds. with_arg _ _ _ _ _ from c.keep_going.ensures adds) c.arg-3.ensures

@@ -8,9 +8,9 @@ use Rattle.dd_pile.proofs.reading_ahead.read_next.Goals as goal
 pub returns-in-Ok-clause-due : goal.returns-in-Ok-clause-due
 returns-in-Ok-clause-due g c =
     due_more (g.F.Files.refusals c.args.files.now) (g.F.Files.refusals c.source.new.self) (HasFailedReader g.F.In.Read)
-    c.args.ahead.now c.skip.new.self known.Unknown
+    c.args.ahead.now c.skip-in-Ok.new.self known.Unknown
     (λ counted. same_counted _ _ (c.in-Ok.ensures.call.worked (cc)).0 counted)
-    (c.skip.ensures.room c.requires.room) c.requires.due tt
+    (c.skip-in-Ok.ensures.room c.requires.room) c.requires.due tt
 
 pub returns-in-Ok-2-clause-due : goal.returns-in-Ok-2-clause-due
 returns-in-Ok-2-clause-due g c =

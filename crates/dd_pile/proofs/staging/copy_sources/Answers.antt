@@ -1,8 +1,8 @@
 -- One more source is staged.
 use Rattle.std.proofs.Common.{◌∙◌, ap, map, rules}
 use Rattle.std.proofs.lemmas.List.{length-map}
-use Rattle.dd_staged.specs.Sources.{source_view}
-use Rattle.dd_pile.specs.Piles.{StandsBefore}
+use Rattle.dd_staged.specs.Sources.{IsListed, source_view}
+use Rattle.dd_pile.specs.Piles.{HasCopy, StandsBefore}
 use Rattle.std.proofs.lemmas.Result.{err_from_is_err_and}
 use Rattle.dd_files.proofs.KeptFiles.{said_then}
 use Rattle.dd_files.proofs.SaidFiles.{said_keeps}
@@ -14,7 +14,7 @@ use Rattle.dd_pile.specs.Paths.{IsCopyOfPile}
 use Rattle.dd_pile.proofs.KnownAhead.{next_known, passed_known, rest_known}
 use Rattle.dd_pile.proofs.Reasons.{same_counted}
 use Rattle.dd_pile.proofs.Refused.{named, not_large}
-use Rattle.dd_pile.proofs.StagedCopies.{each_since, names_more, pushed_more, read_more, stand_more}
+use Rattle.dd_pile.proofs.StagedCopies.{each_more, each_since, name_of, names_more, pushed_more, stand_more}
 use Rattle.dd_pile.proofs.staging.copy_sources.Goals as goal
 
 pub loop-at-init : goal.loop-at-init
@@ -23,7 +23,8 @@ loop-at-init g c = record {
   stand = search rules;
   whole = said_whole_none (IsCopyOfPile c.args.pile.now) _ _ c.begin_step.ensures.kept;
   names = search rules;
-  read = search rules;
+  listed = search rules;
+  all = search rules;
   known = search rules;
   due = due_none (HasCounted (g.F.Files.refusals c.begin_step.new.self)) (HasFailedReader g.F.In.Read) _
       c.new-ahead.ensures;
@@ -91,7 +92,11 @@ loop-at-preserved g c =
           (rw c.read_ahead.ensures.kept at c.in_ok-staged.ensures.ended cc)));
       names = names_more c.args.sources.now list c.push.new.self.items staged c.loop-at.at _ items c.loop-at-test.true
           before.names c.in_ok-staged.ensures.named;
-      read = read_more list c.push.new.self.items staged items before.read c.in_ok-staged.ensures.read;
+      listed = each_more IsListed list c.push.new.self.items staged items before.listed c.in_ok-staged.ensures.listed;
+      all = λ stops named.
+          each_more HasCopy list c.push.new.self.items staged items (before.all stops named)
+          (c.in_ok-staged.ensures.all stops
+          (name_of c.args.sources.now c.loop-at.at _ c.loop-at-test.true named));
       known = rw c.advance.ensures.kept
           (passed_known c.args.sources.now c.loop-at.at c.read_ahead.new.ahead c.pass.new.self _ _ c.pass.ensures
           (said_keeps (IsCopyOfPile c.args.pile.now) _ _ c.stage_source.ensures.adds)

@@ -7,6 +7,7 @@ use Rattle.dd_pile.proofs.Refused.{is_large, unnamed}
 use Rattle.dd_files.proofs.KeptFiles.{said_is, said_stored, said_then}
 use Rattle.dd_pile.proofs.ListLast.{copies_alone, list_last}
 use Rattle.dd_pile.specs.Paths.{IsCopyOfPile, IsListPath}
+use Rattle.dd_pile.proofs.Counted.{none_unread}
 use Rattle.dd_pile.proofs.StagedCopies.{copies_stored, pile_stands}
 use Rattle.dd_pile.specs.Piles.{StandsBefore}
 use Rattle.dd_pile.specs.declared.refusal.StageRefusal.{StageRefusal}
@@ -73,7 +74,7 @@ returns-clause-made g c =
           (rw c.folder.ensures.kept at c.copy_sources.ensures.adds)
           (rw c.folder.ensures.kept at c.in_ok-list.ensures.ended cc) (c.in_ok-store.ensures.stored cc)
           (rw c.deref.ensures.value at c.in_ok-write_list.ensures.written cc) (c.in_ok-store-2.ensures.stored cc));
-      spelled = (rw c.deref.ensures.value at c.in_ok-write_list.ensures.stage (cc)) c.in_ok-list.ensures.read;
+      spelled = (rw c.deref.ensures.value at c.in_ok-write_list.ensures.stage (cc)) c.in_ok-list.ensures.listed;
       adds_up = rw c.deref-2.ensures.value at c.of.ensures;
     }
 
@@ -84,3 +85,8 @@ returns-clause-last g c =
     (list_last c.args.pile.now _ _ _ _ (rw c.folder.ensures.kept at c.copy_sources.ensures.adds)
     (rw c.folder.ensures.kept at c.in_ok-list.ensures.ended cc) (c.in_ok-store.ensures.stored cc)
     (said_then May _ _ _ c.write_list.ensures.adds (said_stored May _ _ (c.in_ok-store-2.ensures.stored cc))))
+
+pub returns-clause-all : goal.returns-clause-all
+returns-clause-all g c = λ stops named.
+    let sums = rw c.deref-2.ensures.value at c.of.ensures in
+    sums.unread ∙ none_unread (map source_view c.in_ok-list.list.items) (c.in_ok-list.ensures.all stops named)

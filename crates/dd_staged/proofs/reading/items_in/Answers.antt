@@ -1,58 +1,34 @@
-use Rattle.std.proofs.Common.{rules, arith, ◌≡◌, ◌-◌, true, length, take, map, refl, sym, ap, ◌∙◌}
-use Rattle.byteorder.specs.Endian.{little_bytes}
+use Rattle.std.proofs.Common.{◌≡◌, ◌-◌, true, length, take, refl, sym, ap, ◌∙◌}
 use Rattle.dd_encoding.specs.Elements.{elements_of}
-use Rattle.dd_set.specs.Views.{elements_view, items_view}
-use Rattle.dd_staged.specs.Cells.{cell_element}
-use Rattle.dd_staged.specs.Stages.{count_of, front_elements}
-use Rattle.dd_staged.proofs.ReadStage.{EndsIn, count_items, list_front, list_joined, list_last, same_items}
+use Rattle.dd_set.specs.Views.{element_view, items_view}
+use Rattle.dd_staged.specs.Stages.{digest_element, list_elements}
+use Rattle.dd_staged.proofs.ReadStage.{EndsIn, both_joined, first_part, last_part}
 use Rattle.dd_staged.proofs.reading.items_in.Goals as goal
 
 pub returns-in_err-items-clause-none : goal.returns-in_err-items-clause-none
 returns-in_err-items-clause-none c = λ e parts few same.
     let ends : EndsIn c.args.elements.now c.last-item.result =
     record { some = c.in-len1-up.len_at_least; is = c.last-item.is } in
-    c.in_err-items.ensures.none refl parts
-    (list_last c.args.elements.now c.last-item.result parts ends same)
+    c.in_err-items.ensures.none refl parts few
+    (first_part c.args.elements.now c.last-item.result (elements_of (list_elements parts))
+    (digest_element c.args.digest.now) ends same)
 
-pub returns-in_err-count-clause-none : goal.returns-in_err-count-clause-none
-returns-in_err-count-clause-none c = λ e parts few same.
-    let ends : EndsIn c.args.elements.now c.last-item.result =
-    record { some = c.in-len1-up.len_at_least; is = c.last-item.is } in
-    let items = c.in_ok-items.items.now in
-    let is : parts ≡ items_view items = same_items parts (items_view items)
-    (sym (list_last c.args.elements.now c.last-item.result parts ends same)
-    ∙ c.in_ok-items.ensures.some) in
-    let count : count_of parts ≡ length items = ap count_of is ∙ count_items items in
-    c.in_err-count.ensures (omega (arith, count, few))
-
-pub returns-then-are_cells-clause-some : goal.returns-then-are_cells-clause-some
-returns-then-are_cells-clause-some c =
+pub returns-then-is_cell-clause-some : goal.returns-then-is_cell-clause-some
+returns-then-is_cell-clause-some c =
     let es = c.args.elements.now in
     let ends : EndsIn es c.last-item.result =
     record { some = c.in-len1-up.len_at_least; is = c.last-item.is } in
     let parts = items_view c.in_ok-items.items.now in
-    let items = c.in_ok-items.items.now in
-    let cells : map cell_element c.front_cells.result ≡ front_elements (little_bytes 4 (length items)) = search rules in
-    let front : elements_view (take (length es - 1) es) ≡ elements_of (map cell_element c.front_cells.result) =
-    c.are_cells.ensures.0 c.if-are_cells.true in
-    list_joined es c.last-item.result parts ends
-    (front ∙ ap elements_of cells
-    ∙ ap (λ n. elements_of (front_elements (little_bytes 4 n))) (sym (count_items c.in_ok-items.items.now)))
-    c.in_ok-items.ensures.some
+    both_joined es c.last-item.result (elements_of (list_elements parts)) (digest_element c.args.digest.now) ends
+    c.in_ok-items.ensures.some (c.is_cell.ensures.0 c.if-is_cell.true ∙ c.digest_cell.ensures.exact)
 
-pub returns-else-are_cells-clause-none : goal.returns-else-are_cells-clause-none
-returns-else-are_cells-clause-none c = λ e parts few same.
+pub returns-else-is_cell-clause-none : goal.returns-else-is_cell-clause-none
+returns-else-is_cell-clause-none c = λ e parts few same.
     let es = c.args.elements.now in
     let ends : EndsIn es c.last-item.result =
     record { some = c.in-len1-up.len_at_least; is = c.last-item.is } in
-    let items = c.in_ok-items.items.now in
-    let is : parts ≡ items_view items = same_items parts (items_view items)
-    (sym (list_last es c.last-item.result parts ends same) ∙ c.in_ok-items.ensures.some) in
-    let count : count_of parts ≡ length items = ap count_of is ∙ count_items items in
-    let cells : map cell_element c.front_cells.result ≡ front_elements (little_bytes 4 (length items)) = search rules in
-    let front : elements_view (take (length es - 1) es) ≡ elements_of (map cell_element c.front_cells.result) =
-    list_front es c.last-item.result parts ends same
-    ∙ ap (λ n. elements_of (front_elements (little_bytes 4 n))) count ∙ ap elements_of (sym cells) in
-    let yes : c.are_cells.result ≡ true = c.are_cells.ensures.1 front in
-    let no = c.if-are_cells.false in
+    let last = last_part es c.last-item.result (elements_of (list_elements parts))
+    (digest_element c.args.digest.now) ends same in
+    let yes : c.is_cell.result ≡ true = c.is_cell.ensures.1 (last ∙ sym c.digest_cell.ensures.exact) in
+    let no = c.if-is_cell.false in
     absurd cc

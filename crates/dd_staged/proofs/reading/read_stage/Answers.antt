@@ -1,5 +1,8 @@
-use Rattle.dd_staged.proofs.ReadStage.{only_fault, only_list}
+use Rattle.dd_staged.proofs.ReadStage.{found_digest, only_fault, only_list}
 use Rattle.dd_staged.proofs.reading.read_stage.Goals as goal
+
+pub returns-clause-digest : goal.returns-clause-digest
+returns-clause-digest c = found_digest c.args.bytes.now c.read_list.result c.read_list.ensures.found
 
 pub returns-clause-only : goal.returns-clause-only
 returns-clause-only c =

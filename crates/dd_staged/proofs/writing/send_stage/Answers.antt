@@ -1,27 +1,19 @@
-use Rattle.std.proofs.Common.{arith}
+use Rattle.std.proofs.Common.{map}
 use Rattle.std.proofs.lemmas.Result.{err_from_is_err_and}
 use Rattle.dd_stream.proofs.Going.{first_fails, then_sends, sends_same}
-use Rattle.dd_staged.proofs.ItemTexts.{count_fits, stage_parts}
+use Rattle.dd_staged.specs.Sources.{source_view}
+use Rattle.dd_staged.specs.Stages.{source_items}
+use Rattle.dd_staged.proofs.Digested.{stage_parts}
 use Rattle.dd_staged.proofs.writing.send_stage.Goals as goal
-
-pub overflow_cast-list : goal.overflow_cast-list
-overflow_cast-list g c = let few = count_fits c.args.list.now c.requires in omega (arith, few)
 
 pub returns-in_err-sent-clause-sends : goal.returns-in_err-sent-clause-sends
 returns-in_err-sent-clause-sends g c =
     let p = err_from_is_err_and c.from_residual.result c.from_residual.ensures.1 in
-    rw (p.1, p.2) (sends_same _ _ _ _ _ _ _ _ (stage_parts c.args.list.now)
-    (first_fails _ _ _ _ _ _ _ _ c.in_err-sent.ensures))
-
-pub returns-in_err-sent-2-clause-sends : goal.returns-in_err-sent-2-clause-sends
-returns-in_err-sent-2-clause-sends g c =
-    let p = err_from_is_err_and c.from_residual-in_err-sent-2.result c.from_residual-in_err-sent-2.ensures.1 in
-    rw (p.1, p.2) (sends_same _ _ _ _ _ _ _ _ (stage_parts c.args.list.now)
-    (then_sends _ _ _ _ _ _ _ _ _ _ _ c.in_ok-sent.ensures (first_fails _ _ _ _ _ _ _ _ c.in_err-sent-2.ensures)))
+    rw (p.1, p.2) (sends_same _ _ _ _ _ _ _ _ (stage_parts (source_items (map source_view c.args.list.now))
+    c.list_digest-digest.result c.list_digest-digest.ensures) (first_fails _ _ _ _ _ _ _ _ c.in_err-sent.ensures))
 
 pub returns-clause-sends : goal.returns-clause-sends
 returns-clause-sends g c =
-    let last = rw c.plain_header.ensures at c.send.ensures in
-    sends_same _ _ _ _ _ _ _ _ (stage_parts c.args.list.now)
-    (then_sends _ _ _ _ _ _ _ _ _ _ _ c.in_ok-sent.ensures
-    (then_sends _ _ _ _ _ _ _ _ _ _ _ c.in_ok-sent-2.ensures last))
+    sends_same _ _ _ _ _ _ _ _ (stage_parts (source_items (map source_view c.args.list.now))
+    c.list_digest-digest.result c.list_digest-digest.ensures)
+    (then_sends _ _ _ _ _ _ _ _ _ _ _ c.in_ok-sent.ensures c.send_digest.ensures)

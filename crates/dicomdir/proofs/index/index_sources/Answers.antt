@@ -21,7 +21,7 @@ returns-clause-made g c = λ names have makes.
     (rw c.begin_step.ensures.kept at c.in-Ok.ensures.answers names have)
     (rw (
       c.deref-2.ensures.value,
-      c.show_dates.ensures.kept,
+      c.keep_dates.ensures.kept,
       c.hide_line.ensures.kept,
       c.index_files-answer.ensures.kept,
       c.begin_step.ensures.kept,

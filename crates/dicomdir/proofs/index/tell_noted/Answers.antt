@@ -12,6 +12,6 @@ returns-clause-told g c =
     (λ (named : SaidTo g.O.Write (IsNames style) noted.notes.names.items c.tell_left_out.new.out c.tell_names.new.out).
     notes_said g.O.Write style (words_of c.args.sources.now) noted c.args.out.now c.tell_skipped.new.out
     c.tell_left_out.new.out c.tell_names.new.out
-    (rw c.deref-2.ensures.value at c.in_ok-tell_skipped.ensures.told)
-    (rw c.deref-3.ensures.value at c.in_ok-tell_left_out.ensures.told) named)
-    (rw c.deref-4.ensures.value at c.tell_names.ensures.told)
+    (rw c.deref.ensures.value at c.in_ok-tell_skipped.ensures.told)
+    (rw c.deref-2.ensures.value at c.in_ok-tell_left_out.ensures.told) named)
+    (rw c.deref-3.ensures.value at c.tell_names.ensures.told)

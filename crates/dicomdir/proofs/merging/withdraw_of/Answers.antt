@@ -1,5 +1,5 @@
 -- What was made is of the answer of the engine, whose one set is the directory in the folder. Images get no hard links.
-use Rattle.std.proofs.Common.{◌≡◌, ◌∙◌, Err, ap, false, length, map, rules}
+use Rattle.std.proofs.Common.{◌≡◌, ◌∙◌, Err, None, ap, false, length, map, rules}
 use Rattle.dd_line.specs.Line.{words_of}
 use Rattle.dicomdir.specs.Origins.{IsMemberPath}
 use Rattle.dicomdir.proofs.EngineMade.{done_merges, only_one}
@@ -19,7 +19,8 @@ returns-clause-made g c = λ makes.
     (words_of c.args.sets.now) (map (λ bytes. bytes.items) c.in_ok-directories.directories.items) ⊥
     c.args.making.folder.now _ _ c.in-Ok.noted c.in_ok-directories.ensures.read
     (rw (c.of_bytes-limits.ensures, c.deref-2.ensures.value, set) at c.in-Ok.ensures.merges)
-    (unlinked_done c.write_noted.result (IsMemberPath (words_of c.args.sets.now)) c.args.making.folder.now _ _ _ _
+    (unlinked_done c.write_noted.result (IsMemberPath (words_of c.args.sets.now))
+    (λ _. None) c.args.making.folder.now _ _ _ _
     (rw c.in_ok-directories.ensures.kept at c.write_noted.ensures.made makes))
 
 pub returns-clause-printed : goal.returns-clause-printed

@@ -1,7 +1,7 @@
 -- What was made is made where the command is done: the file-set of all picks.
 use Rattle.std.proofs.Common.{◌≡◌, rules, true}
 use Rattle.std.proofs.lemmas.Result.{err_from_is_err_and}
-use Rattle.std.specs.Prelude.{IsOk, Ok}
+use Rattle.std.specs.Prelude.{IsOk, None, Ok}
 use Rattle.dd_line.specs.Line.{words_of}
 use Rattle.dicomdir.proofs.EngineMade.{once_done}
 use Rattle.dicomdir.proofs.MadeGrounds.{noted_by, noted_grounds, strict_grounds}
@@ -16,7 +16,7 @@ use Rattle.dicomdir.proofs.merging.write_noted.Goals as goal
 
 pub returns-clause-made : goal.returns-clause-made
 returns-clause-made g c = λ makes.
-    once_done c.make_file_set.result _ (rw (c.deref.ensures.value, c.show_dates.ensures.kept) at c.make_file_set.ensures.made)
+    once_done c.make_file_set.result _ (rw (c.deref.ensures.value, c.keep_dates.ensures.kept) at c.make_file_set.ensures.made)
 
 pub returns-clause-printed : goal.returns-clause-printed
 returns-clause-printed g c =
@@ -47,7 +47,7 @@ returns-then-making-clause-printed g c =
 pub returns-clause-grounds : goal.returns-clause-grounds
 returns-clause-grounds g c =
     noted_grounds c.make_file_set.result (HasUnfitImage (IsMemberPath (words_of c.args.sets.now.folders.now))
-    (λ _ _. c.args.sets.now.link ≡ true) (c.args.sets.now.link ≡ true) c.args.noted.now.merged.plan
+    (λ _ _. c.args.sets.now.link ≡ true) (λ _. None) (c.args.sets.now.link ≡ true) c.args.noted.now.merged.plan
     c.args.noted.now.merged.picks.items (g.F.Files.held c.make_file_set.new.files)) (IsNoted c.args.noted.now)
     (rw c.deref.ensures.value at c.make_file_set.ensures.grounds)
 
@@ -56,7 +56,7 @@ returns-in_err-refuse_noted-clause-grounds g c =
     let p = err_from_is_err_and c.from_residual.result c.from_residual.ensures.1 in
     let refused = c.in_err-refuse_noted.ensures in
     let unfit = HasUnfitImage (IsMemberPath (words_of c.args.sets.now.folders.now))
-    (λ _ _. c.args.sets.now.link ≡ true) (c.args.sets.now.link ≡ true) c.args.noted.now.merged.plan
+    (λ _ _. c.args.sets.now.link ≡ true) (λ _. None) (c.args.sets.now.link ≡ true) c.args.noted.now.merged.plan
     c.args.noted.now.merged.picks.items (g.F.Files.held c.args.files.now) in
     rw (p.1, p.2) (strict_grounds (GroundsOfMaking unfit (IsNoted c.args.noted.now)) c.in_err-refuse_noted.field-0.0
     refused.fault (noted_by c.args.making.strict c.is_noted.result (IsNoted c.args.noted.now) refused.refuses

@@ -1,11 +1,11 @@
 -- One source more of the list is added, and at the end all of them are.
-use Rattle.std.proofs.Common.{◌≡◌, ◌∙◌, ◌∷◌, ◌++◌, [], ap, append-nil, append_assoc, arith, length, map, refl}
+use Rattle.std.proofs.Common.{◌≡◌, ◌∙◌, ◌∷◌, ◌++◌, [], ap, append-nil, append_assoc, arith, length, map, refl, rules}
 use Rattle.std.proofs.Common.{subst, sym}
 use Rattle.std.proofs.lemmas.List.{length-map, length_push, map_push}
 use Rattle.std.specs.Vec.Iter.{into_iter_items}
 use Rattle.dd_staged.specs.Sources.{source_view}
 use Rattle.dicomdir.proofs.HavingPaths.{none_of}
-use Rattle.dicomdir.proofs.Piling.{piled_start}
+use Rattle.dicomdir.proofs.Piling.{names_count, piled_start}
 use Rattle.dicomdir.specs.Publishes.{IsPiled}
 use Rattle.dicomdir.proofs.piles.add_list.Goals as goal
 
@@ -17,6 +17,7 @@ loop-staged-init c =
       all = refl;
       left = left;
       few = omega (arith, h.2, left);
+      before = search rules;
       number = refl;
       piled = λ lists count is. piled_start lists _ is;
     }
@@ -34,10 +35,12 @@ loop-staged-preserved c =
           let short = ap length steps in
           omega (arith, before.left, gone, short);
       few = before.few;
+      before = before.before;
       number = omega (arith, before.number, length_push at.yielded staged);
       piled = λ lists count is. rw (map_push source_view at.yielded staged)
           (c.in_ok-add_source.ensures refl lists (map source_view at.yielded) count
-          (omega (arith, before.number, length-map at.yielded source_view)) (before.piled lists count is));
+          (omega (arith, before.number, length-map at.yielded source_view))
+          (sym (names_count lists _ is) ∙ sym before.before) (before.piled lists count is));
     }
 
 pub returns : goal.returns

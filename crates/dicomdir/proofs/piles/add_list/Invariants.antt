@@ -10,6 +10,7 @@ invariant-loop-staged l = record {
   all : l.yielded ++ into_iter_items l.staged-iterator ≡ into_iter_items l.initial.staged-iterator;
   left : into_iter_len l.staged-iterator ≡ length (into_iter_items l.staged-iterator);
   few : length (into_iter_items l.initial.staged-iterator) < 2 ^ 64;
+  before : l.before ≡ length l.fn.piled.names.items;
   number : l.number ≡ length l.yielded;
   piled : (lists : List (List Source)) → length lists ≡ l.pile → IsPiled lists l.fn.piled
       → IsPiled (lists ++ map source_view l.yielded ∷ []) l.piled;

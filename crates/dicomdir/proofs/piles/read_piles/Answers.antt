@@ -14,7 +14,8 @@ use Rattle.dicomdir.proofs.piles.read_piles.Goals as goal
 
 pub loop-at-init : goal.loop-at-init
 loop-at-init g c = record {
-  piled = none_piled _ _ c.new.ensures.items c.new-2.ensures.items c.new-3.ensures;
+  piled = none_piled _ _ c.new.ensures.items c.new-2.ensures.items c.new-3.ensures.items c.new-4.ensures.absent
+      c.new-4.ensures.bad_names c.new-5.ensures;
   kept = c.begin_step.ensures.kept;
 }
 

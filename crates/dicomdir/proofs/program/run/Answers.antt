@@ -18,6 +18,7 @@ use Rattle.dicomdir.proofs.EmptyWords.{requested_empty}
 use Rattle.dicomdir.proofs.InspectedLines.{requested_checks, requested_lists}
 use Rattle.dicomdir.proofs.LinesLast.{last_line, unmade_line}
 use Rattle.dicomdir.proofs.LinesMade.{given_index, given_merge, given_publish, given_stage, given_withdraw}
+use Rattle.dicomdir.proofs.LinesMade.{requested_publish}
 use Rattle.dicomdir.proofs.LinesSaid.{index_says, merge_says, publish_says, withdraw_says}
 use Rattle.dicomdir.proofs.LinesRefused.{taken_lacks, taken_mistake}
 use Rattle.dicomdir.proofs.program.run.Goals as goal
@@ -28,8 +29,12 @@ pub returns-in-Ok-clause-findings : goal.returns-in-Ok-clause-findings
 returns-in-Ok-clause-findings g c = λ is. elim (c.run_request.ensures.status.findings is) [
   | inl check ↦ inl (subst (λ words. IsCheck (line_of words)) c.as_slice.ensures.value
       (requested_check c.in-Ok.request _ c.in-Ok.ensures.request check))
-  | inr keeps ↦ inr (subst (λ words. HasKeepGoing (line_of words)) c.as_slice.ensures.value
-      (given_keep_going c.in-Ok.request _ c.in-Ok.ensures.request keeps))
+  | inr other ↦ elim other [
+    | inl keeps ↦ inr (inl (subst (λ words. HasKeepGoing (line_of words)) c.as_slice.ensures.value
+        (given_keep_going c.in-Ok.request _ c.in-Ok.ensures.request keeps)))
+    | inr publish ↦ inr (inr (subst (λ words. IsPublish (line_of words)) c.as_slice.ensures.value
+        (requested_publish c.in-Ok.request _ c.in-Ok.ensures.request publish)))
+  ]
 ]
 
 pub returns-in-Ok-clause-words : goal.returns-in-Ok-clause-words
@@ -112,17 +117,17 @@ returns-in-Ok-clause-publishes g c = λ done _ names works.
     let read = c.in-Ok.ensures.request in
     let works = subst (λ words. ¬ HasDryRun (line_of words)) (sym c.as_slice.ensures.value) works in
     let names = subst (λ words. IsPublish (line_of words)) (sym c.as_slice.ensures.value) names in
-    subst (λ words. PublishesLine (line_of words) (g.F.Files.held c.args.files.now)
+    subst (λ words. PublishesLine (line_of words) c.run_request.result (g.F.Files.held c.args.files.now)
     (g.F.Files.held c.run_request.new.files)) c.as_slice.ensures.value
     (given_publish c.in-Ok.request found _ _ _ read names
-    (c.run_request.ensures.made (requested_work c.in-Ok.request found read works) (inl done)))
+    (c.run_request.ensures.made (requested_work c.in-Ok.request found read works) done))
 
 pub returns-in-Ok-clause-stages : goal.returns-in-Ok-clause-stages
 returns-in-Ok-clause-stages g c = λ done _ names.
     let names = subst (λ words. IsStage (line_of words)) (sym c.as_slice.ensures.value) names in
-    subst (λ words. StagesLine g.O.Write (line_of words) (g.F.Files.held c.args.files.now)
+    subst (λ words. StagesLine g.O.Write (line_of words) c.run_request.result (g.F.Files.held c.args.files.now)
     (g.F.Files.held c.run_request.new.files) c.args.out.now c.run_request.new.out) c.as_slice.ensures.value
-    (given_stage g.O.Write c.in-Ok.request (line_of c.as_slice.result.now) _ _ _ _ c.in-Ok.ensures.request names
+    (given_stage g.O.Write c.in-Ok.request (line_of c.as_slice.result.now) _ _ _ _ _ c.in-Ok.ensures.request names
     (c.run_request.ensures.staged done))
 
 pub returns-in-Ok-clause-index_says : goal.returns-in-Ok-clause-index_says
@@ -152,10 +157,10 @@ returns-in-Ok-clause-withdraw_says g c = λ done _ names.
 pub returns-in-Ok-clause-publish_says : goal.returns-in-Ok-clause-publish_says
 returns-in-Ok-clause-publish_says g c = λ done _ names.
     let names = subst (λ words. IsPublish (line_of words)) (sym c.as_slice.ensures.value) names in
-    subst (λ words. PublishSays g.O.Write (line_of words) (g.F.Files.held c.args.files.now)
+    subst (λ words. PublishSays g.O.Write (line_of words) c.run_request.result (g.F.Files.held c.args.files.now)
     c.args.out.now c.run_request.new.out) c.as_slice.ensures.value
     (publish_says g.O.Write c.in-Ok.request (line_of c.as_slice.result.now) _ _ _ _ c.in-Ok.ensures.request names
-    (c.run_request.ensures.says (inl done)))
+    (c.run_request.ensures.says done))
 
 pub returns-in-Ok-clause-lists : goal.returns-in-Ok-clause-lists
 returns-in-Ok-clause-lists g c = λ is _ lists.
@@ -241,14 +246,14 @@ pub returns-clause-publishes : goal.returns-clause-publishes
 returns-clause-publishes g c = λ is taken _ _.
     let still = subst (λ words. IsTaken words) (sym c.as_slice.ensures.value) taken in
     let amiss = c.refuse_line.ensures.mistake (taken_mistake c.in-Err.fault _ _ (c.in-Err.ensures.passes still)) in
-    absurd {A = PublishesLine (line_of c.args.words.items) (g.F.Files.held c.args.files.now)
-    (g.F.Files.held c.args.files.now)} (omega (arith, is, amiss.0))
+    absurd {A = PublishesLine (line_of c.args.words.items) c.refuse_line.result (g.F.Files.held c.args.files.now)
+    (g.F.Files.held c.args.files.now)} (refused_line c.refuse_line.result is amiss.0 c.refuse_line.ensures.status)
 
 pub returns-clause-stages : goal.returns-clause-stages
 returns-clause-stages g c = λ is taken _.
     let still = subst (λ words. IsTaken words) (sym c.as_slice.ensures.value) taken in
     let amiss = c.refuse_line.ensures.mistake (taken_mistake c.in-Err.fault _ _ (c.in-Err.ensures.passes still)) in
-    absurd (refused_line c.refuse_line.result (inl is) amiss.0 c.refuse_line.ensures.status)
+    absurd (refused_line c.refuse_line.result is amiss.0 c.refuse_line.ensures.status)
 
 pub returns-clause-index_says : goal.returns-clause-index_says
 returns-clause-index_says g c = λ is taken _.
@@ -272,7 +277,7 @@ pub returns-clause-publish_says : goal.returns-clause-publish_says
 returns-clause-publish_says g c = λ is taken _.
     let still = subst (λ words. IsTaken words) (sym c.as_slice.ensures.value) taken in
     let amiss = c.refuse_line.ensures.mistake (taken_mistake c.in-Err.fault _ _ (c.in-Err.ensures.passes still)) in
-    absurd (refused_line c.refuse_line.result (inl is) amiss.0 c.refuse_line.ensures.status)
+    absurd (refused_line c.refuse_line.result is amiss.0 c.refuse_line.ensures.status)
 
 pub returns-clause-lists : goal.returns-clause-lists
 returns-clause-lists g c = λ is taken _.

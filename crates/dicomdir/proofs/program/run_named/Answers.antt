@@ -15,8 +15,7 @@ returns-in-Ok-run_verb-clause-made g c = λ makes done.
       are = found.are;
       made = rw (c.silence_quiet.ensures.kept, c.all_sources.ensures.kept) at
           c.in-Ok-run_verb.ensures.made found.sources
-          (rw (c.paths_or-sources.ensures, c.paths_of-given.ensures.sources, c.bad_names_in.ensures) found.have)
-          (rw c.bad_names_in.ensures found.none) makes done;
+          (rw (c.paths_or-sources.ensures, c.paths_of-given.ensures.sources, c.bad_names_in.ensures) found.have) makes done;
     }
 
 -- What is printed is of these, too.
@@ -28,8 +27,7 @@ returns-in-Ok-run_verb-clause-says g c = λ done.
       are = found.are;
       says = rw (c.silence_quiet.ensures.kept, c.all_sources.ensures.kept) at
           c.in-Ok-run_verb.ensures.says found.sources
-          (rw (c.paths_or-sources.ensures, c.paths_of-given.ensures.sources, c.bad_names_in.ensures) found.have)
-          (rw c.bad_names_in.ensures found.none) done;
+          (rw (c.paths_or-sources.ensures, c.paths_of-given.ensures.sources, c.bad_names_in.ensures) found.have) done;
     }
 
 -- So is what is staged.
@@ -41,14 +39,16 @@ returns-in-Ok-run_verb-clause-staged g c = λ done.
       are = found.are;
       staged = rw (c.silence_quiet.ensures.kept, c.all_sources.ensures.kept) at
           c.in-Ok-run_verb.ensures.staged found.sources
-          (rw (c.paths_or-sources.ensures, c.paths_of-given.ensures.sources, c.bad_names_in.ensures) found.have)
-          (rw c.bad_names_in.ensures found.none) done;
+          (rw (c.paths_or-sources.ensures, c.paths_of-given.ensures.sources, c.bad_names_in.ensures) found.have) done;
     }
 
 pub run_verb-requires-clause-named : goal.run_verb-requires-clause-named
 run_verb-requires-clause-named g c =
     let found = c.in-Ok.ensures.listed in
     (found.sources, rw (c.paths_or-sources.ensures, c.paths_of-given.ensures.sources, c.bad_names_in.ensures) found.have)
+
+pub run_verb-requires-clause-none : goal.run_verb-requires-clause-none
+run_verb-requires-clause-none g c = rw c.bad_names_in.ensures c.in-Ok.ensures.listed.none
 
 -- What was refused has a reason.
 pub returns-in-Err-clause-refused : goal.returns-in-Err-clause-refused
@@ -73,8 +73,7 @@ returns-clause-refused g c = λ one.
       grounds = rw (sym told.kept) at
           (rw (c.silence_quiet.ensures.kept, c.all_sources.ensures.kept, names.chooses, names.withdraws) at
           c.in-Err-run_verb.ensures.grounds found.sources
-          (rw (c.paths_or-sources.ensures, c.paths_of-given.ensures.sources, c.bad_names_in.ensures) found.have)
-          (rw c.bad_names_in.ensures found.none));
+          (rw (c.paths_or-sources.ensures, c.paths_of-given.ensures.sources, c.bad_names_in.ensures) found.have));
     })
     (inr (_, found))
     (rw (c.paths_of-given.ensures.folder, c.paths_or-sources.ensures, c.paths_of-given.ensures.sources) at told.told))

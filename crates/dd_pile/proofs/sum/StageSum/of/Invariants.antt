@@ -8,5 +8,5 @@ abbrev pub invariant-loop-staged : goal.invariant-loop-staged
 invariant-loop-staged l = record {
   sources : l.sum.sources ≡ length l.list;
   few : l.sum.sources < 2 ^ 64;
-  counts : Counts (map source_view (take l.staged-index l.list)) l.sum.skipped l.sum.bytes;
+  counts : Counts (map source_view (take l.staged-index l.list)) l.sum.skipped l.sum.unread l.sum.bytes;
 }

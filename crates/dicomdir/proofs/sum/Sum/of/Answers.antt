@@ -8,4 +8,4 @@ returns-clause-counts c = search rules
 
 pub returns-clause-adds : goal.returns-clause-adds
 returns-clause-adds c = λ choice limits answers all notes.
-    index_adds_up choice limits answers c.args.noted.now c.args.sources _ all notes (returns-clause-counts c)
+    index_adds_up choice limits answers c.args.past.now.noted c.args.sources _ all notes (returns-clause-counts c)
