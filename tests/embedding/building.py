@@ -9,7 +9,7 @@ from hashlib import sha256
 from pathlib import Path
 
 import dicomdir
-from cases import EXAMPLES, PACKAGED, TOP, Tally, head_of, packaged_images, run
+from cases import EXAMPLES, PACKAGED, TOP, Tally, fault_of, head_of, packaged_images, run
 
 room = Path(sys.argv[1])
 
@@ -23,23 +23,47 @@ def options(set_id, uid):
     return (["--id", set_id] if set_id else []) + (["--uid", uid] if uid else [])
 
 
+def noted(built):
+    """The lines NOTE of what was left out, and of Patient IDs with several names."""
+    lines = [f"NOTE {path}: left out for {kept}: same SOP Instance UID {uid}, other bytes"
+             for path, kept, uid in built.left_out]
+    for patient, names in built.names.items():
+        shown = ["".join(letter if " " <= letter <= "~" else "?" for letter in name) for name in names]
+        patient = "NOID or none" if patient == "NOID" else patient
+        lines.append(f"NOTE -: Patient ID {patient} has {len(names)} names: {', '.join(shown)}")
+    return lines
+
+
+def is_as_strict(files):
+    """Does `strict` refuse what `index --strict` refuses?"""
+    status, _, errors = run("index", "--strict", "--dry-run", room / "none", *files)
+    try:
+        dicomdir.FileSet.build(files, strict=True)
+        return status == 0
+    except dicomdir.Fault as fault:
+        return status == 1 and fault.words == fault_of(errors)
+
+
 def builds(tally, files):
     """`index` and `FileSet.build` of the same sources."""
     chance = tally.chance
-    some = chance.sample(files, chance.randrange(1, 12))
+    some = chance.choices(files, k=chance.randrange(1, 12))
     set_id, uid = chance.choice(("", "DISC1")), chance.choice(("", "1.2.3"))
     number = tally.cases
     out, mine = room / f"index{number}", room / f"built{number}"
-    _, output, _ = run("index", out, *some, *options(set_id, uid))
+    _, output, errors = run("index", "--verbose", out, *some, *options(set_id, uid))
     built = dicomdir.FileSet.build(some, set_id, uid)
     skipped = [line.split(": ", 1)[1] for line in output.splitlines() if line.startswith("SKIP ")]
     said = [str(fault) for _, fault in built.skipped]
     disc = built.write(mine)
     # The program also prints UIDs, which have no room in an answer.
     alike = len(skipped) == len(said) and all(line.startswith(fault) for line, fault in zip(skipped, said))
-    same = same_folders(out, mine) and alike
+    notes = [line for line in output.splitlines() if line.startswith("NOTE ")]
+    told = f" {len(built.left_out)} left out, {built.repeated} repeated" in errors and noted(built) == notes
+    same = same_folders(out, mine) and alike and told and is_as_strict(some)
     checked = disc.check(keys=True, strict=True) == [] and run("check", "--keys", "--strict", mine)[0] == 0
-    tally.note("index", same and checked and disc.ID == set_id, some, output, said)
+    met = "index with notes" if notes else "index"
+    tally.note(met, same and checked and disc.ID == set_id, some, output, errors, said, noted(built))
 
 
 def merges(tally, sets):
@@ -114,6 +138,26 @@ def refused(status, function, *words):
     return False
 
 
+def refused_first(status, *label):
+    """Is a wrong label refused before a file that is not there is opened?"""
+    try:
+        dicomdir.FileSet.build([room / "nowhere"], *label)
+    except dicomdir.Fault as fault:
+        return (fault.status, fault.path) == (status, None)
+    return False
+
+
+def variants():
+    """Images with the UID of another one: other bytes, and another name of the patient."""
+    made = []
+    for number, path in enumerate(EXAMPLES):
+        data = path.read_bytes()
+        for kind, changed in enumerate((data[:-1] + bytes([data[-1] ^ 1]), data.replace(b"DOE^JOHN", b"ROE^JANE"))):
+            made.append(room / f"variant{number}{kind}.dcm")
+            made[-1].write_bytes(changed)
+    return made
+
+
 def refuses(tally):
     """Folders that are taken, links in the way, sources that change or are gone, a disk that is full."""
     source = room / "source.dcm"
@@ -136,6 +180,7 @@ def refuses(tally):
     source.write_bytes(source.read_bytes()[:-1] + b"\xff")
     tally.note("97", refused(97, built.write, folder) and not (folder / "DICOMDIR").exists(), "a changed source")
     source.unlink()
+    tally.note("71 and 72", refused_first(72, "x") and refused_first(71, "", "01"), "a wrong label")
     tally.note("92", refused(92, built.write, room / "absent"), "a source that is gone")
     tally.note("92", refused(92, dicomdir.FileSet.build, [source]), "a source that is not there")
     tally.note("93", refused(93, dicomdir.FileSet.build, [room]), "a folder")
@@ -160,8 +205,8 @@ def full():
 
 def main():
     tally = Tally("building", 3)
-    files = [*EXAMPLES, *packaged_images(), TOP / "README.md", TOP / "examples/ct1.DICOMDIR"]
-    for _ in range(25):
+    files = [*EXAMPLES, *variants(), *packaged_images()[::4], TOP / "README.md", TOP / "examples/ct1.DICOMDIR"]
+    for _ in range(40):
         builds(tally, files)
     sets = sorted(room.glob("index*"))
     for _ in range(15):

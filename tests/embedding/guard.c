@@ -34,7 +34,7 @@ struct function {
     void (*wanted)(const struct dicomdir_answer *, size_t *);
 };
 
-static uint8_t *directory, *image, *contents, *uids;
+static uint8_t *directory, *twice, *image, *contents, *uids;
 static size_t directory_len, image_len, contents_len, uids_len;
 static uint32_t *tags;
 static uint64_t *directory_end, *uid_end;
@@ -75,6 +75,9 @@ static uint32_t front(const struct rooms *r, struct dicomdir_answer *a) {
     uint64_t unreached;
     return dicomdir_front(directory, directory_len, r->at[0], r->items[0], r->at[1], r->items[1], &unreached, a);
 }
+static uint32_t spellings(const struct rooms *r, struct dicomdir_answer *a) {
+    return dicomdir_spellings(uids, uids_len, r->at[0], r->items[0], r->at[1], r->items[1], a);
+}
 static uint32_t findings(const struct rooms *r, struct dicomdir_answer *a) {
     return dicomdir_findings(directory, directory_len, files, 2, contents, contents_len, 1, 1, r->at[0], r->items[0],
                              a);
@@ -85,6 +88,11 @@ static uint32_t of_image(const struct rooms *r, struct dicomdir_answer *a) {
 static uint32_t merge(const struct rooms *r, struct dicomdir_answer *a) {
     return dicomdir_merge(directory, directory_len, directory_end, 1, uids, 0, uids, 0, r->at[0], r->items[0],
                           r->at[1], r->items[1], r->at[2], r->items[2], r->at[3], r->items[3], a);
+}
+static uint32_t notes(const struct rooms *r, struct dicomdir_answer *a) {
+    struct dicomdir_sum sum;
+    return dicomdir_notes(twice, 2 * directory_len, directory_end, 2, uids, 0, uids, 0, r->at[0], r->items[0],
+                          r->at[1], r->items[1], r->at[2], r->items[2], &sum, a);
 }
 static uint32_t withdraw(const struct rooms *r, struct dicomdir_answer *a) {
     return dicomdir_withdraw(directory, directory_len, uids, uids_len, uid_end, 1, uids, 0, uids, 0, r->at[0],
@@ -101,13 +109,19 @@ static void of_made(const struct dicomdir_answer *a, size_t *items) {
     items[0] = a->text, items[1] = items[2] = a->rows, items[3] = a->files;
 }
 
+static void of_notes(const struct dicomdir_answer *a, size_t *items) {
+    items[0] = a->rows, items[1] = a->files, items[2] = a->text;
+}
+
 static const struct function functions[] = {
     {"list", list, {1}, of_text},
     {"rows", rows, {sizeof(struct dicomdir_row), 8, 1}, of_rows},
     {"front", front, {8, 1}, of_front},
+    {"spellings", spellings, {8, 1}, of_front},
     {"findings", findings, {sizeof(struct dicomdir_finding)}, of_files},
     {"of_image", of_image, {1}, of_text},
     {"merge", merge, {1, 8, 8, 1}, of_made},
+    {"notes", notes, {sizeof(struct dicomdir_note), 8, 1}, of_notes},
     {"withdraw", withdraw, {1, 8, 8, 1}, of_made},
 };
 
@@ -253,7 +267,10 @@ int main(int count, char **words) {
     uids_len = strlen("1.2.3.4.6");
     uids = fenced_copy("1.2.3.4.6", uids_len);
     tags = fenced_copy(some_tags, sizeof some_tags);
-    directory_end = fenced_copy(&(uint64_t){directory_len}, sizeof(uint64_t));
+    twice = fenced(2 * directory_len);
+    memcpy(twice, directory, directory_len);
+    memcpy(twice + directory_len, directory, directory_len);
+    directory_end = fenced_copy((uint64_t[]){directory_len, 2 * directory_len}, 2 * sizeof(uint64_t));
     uid_end = fenced_copy(&(uint64_t){uids_len}, sizeof(uint64_t));
     /* The record of the first image, and its file twice: whole, and by a digest and a head. */
     contents_len = 2 * image_len + 32;

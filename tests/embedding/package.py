@@ -2,21 +2,23 @@
 
     package.py MADE ROOM
 """
-import builtins
 import copy
+import hashlib
 import io
 import os
 import pickle
+import shutil
 import subprocess
 import sys
+import textwrap
 import threading
 import warnings
 from hashlib import sha256
 from pathlib import Path
 
 import dicomdir
-from cases import EXAMPLES, PACKAGED, head_of, run
-from dicomdir import _bytes, _calls, _text
+from cases import EXAMPLES, TOP, head_of, run
+from dicomdir import _bytes, _calls, _opening, _text
 
 made, room = Path(sys.argv[1]), Path(sys.argv[2])
 passed = 0
@@ -76,10 +78,50 @@ def tree():
     for path in sorted((room / "tree").rglob("*"), reverse=True):
         path.rename(path.with_name(path.name.lower() + (".;1" if path.is_file() else "")))
     small = dicomdir.read(room / "tree")
+    image = next(iter(small))
+    same("a path", image.path, str(room / "tree/pt000001/st000001/se000001/im000001.;1"))
+    same("a File ID", image.file_id, ("PT000001", "ST000001", "SE000001", "IM000001"))
+    same("no File ID", (small.records[0].path, small.records[0].file_id), (None, ()))
+    same("a path without a folder", next(iter(dicomdir.FileSet(small.data))).path, "/".join(image.file_id))
     same("small names", (small.check(), len(next(iter(small)).read()) > 0), ([], True))
     os.rename(room / "tree/pt000001", room / "elsewhere")
     os.symlink(room / "elsewhere", room / "tree/pt000001")
     same("links", {one.kind for one in small.check()}, {"MISSING"})
+
+
+def example():
+    """The function `known` of docs/EMBEDDING.md."""
+    import pydicom
+    page = (TOP / "docs/EMBEDDING.md").read_text(encoding="utf-8")
+    words = {"hashlib": hashlib, "io": io, "pydicom": pydicom}
+    exec(textwrap.dedent(page[page.index("    def known("):page.index("    disc.check(keys=True, known=")]), words)
+    return words["known"]
+
+
+def discs():
+    """Under each name that a system shows, each path opens, and is what was burnt. So is what is known by it."""
+    known, shown = example(), room / "shown"
+    for folder in sorted(made.iterdir()):
+        burnt = dicomdir.read(folder)
+        files, wanted = [one.read() for one in burnt], [str(one) for one in burnt.check(keys=True)]
+        for form in range(8):
+            shutil.copytree(folder, shown)
+            for path in sorted(shown.rglob("*"), reverse=True):
+                path.rename(path.with_name(_bytes.spellings(path.name)[form]))
+            disc = dicomdir.read(shown)
+            same(f"{folder.name}: files in form {form}", [Path(one.path).read_bytes() for one in disc] == files)
+            same(f"{folder.name}: File IDs", [one.file_id for one in disc], [one.file_id for one in burnt])
+            if form in (1, 2):
+                same(f"{folder.name}: known", [str(one) for one in disc.check(keys=True, known=known)], wanted)
+            shutil.rmtree(shown)
+    # A link is passed over, and a name that is not there is as recorded.
+    burnt = dicomdir.FileSet.build(EXAMPLES[:1]).write(shown)
+    path = Path(next(iter(burnt)).path)
+    path.rename(path.with_name("im000001"))
+    path.symlink_to("im000001")
+    same("a link", next(iter(burnt)).path, str(path.with_name("im000001")))
+    path.with_name("im000001").unlink()
+    same("no file", next(iter(burnt)).path, str(path))
 
 
 def known_files():
@@ -112,6 +154,135 @@ def known_files():
         same("a short digest", True)
 
 
+def fault_of(function, *words, **names):
+    """What a call raises: its class and words."""
+    try:
+        return "none", repr(function(*words, **names))
+    except Exception as error:
+        return type(error).__name__, str(error)
+
+
+def arguments():
+    """What can't be meant is refused, and by the words of what is wanted."""
+    disc = dicomdir.FileSet.build(EXAMPLES).write(room / "arguments")
+    paths, bytes_like = "build takes a list of paths, and not ", "memoryview: a bytes-like object is required, not "
+    for wanted, function, *words in (
+            (paths + "'folder'", dicomdir.FileSet.build, "folder"),
+            (paths + "PosixPath('folder')", dicomdir.FileSet.build, Path("folder")),
+            ("withdraw takes a list of SOP Instance UIDs, and not '1.2'", disc.withdraw, "1.2"),
+            ("merge takes a list of file-sets, and not 'folder'", dicomdir.merge, "folder"),
+            ("merge takes a list of file-sets, as `read` gives them", dicomdir.merge, disc),
+            (bytes_like + "'int'", dicomdir.FileSet, 5),
+            (bytes_like + "'int'", dicomdir.of_image, 5),
+            (bytes_like + "'int'", dicomdir.listing, 5),
+            (bytes_like + "'int'", lambda: disc.check(known=lambda record: 5)),
+            (bytes_like + "'str'", lambda: disc.check(known=lambda record: ("x" * 32, None)))):
+        same(wanted, fault_of(function, *words), ("TypeError", wanted))
+    series = disc.patients[0].studies[0].series[0]
+    found = [series.get("StudyDescription"), series.get("StudyDescription", "none"), series.get("Modality", "none")]
+    same("get", found, [None, "none", "CT"])
+    wanted = subprocess.run([TOP / "packaging/version"], capture_output=True, check=True, text=True).stdout.strip()
+    same("version", dicomdir.__version__, wanted)
+    same("repr", repr(disc), "<FileSet without ID: 2 patients, 2 studies, 2 series, 3 files>")
+    same("repr with ID", repr(dicomdir.merge([disc], "DISC1").write(room / "named")),
+         "<FileSet DISC1: 2 patients, 2 studies, 2 series, 3 files>")
+
+
+def lengths():
+    """No file of more than 4,294,967,295 bytes is read: these have a terabyte, and take no memory."""
+    (room / "long").mkdir()
+    with open(room / "long/DICOMDIR", "wb") as file:
+        file.truncate(1 << 40)
+    disc = dicomdir.FileSet.build([*EXAMPLES, room / "long/DICOMDIR"])
+    same("build", [str(fault) for _, fault in disc.skipped], ["39 FileTooLong"])
+    disc = disc.write(room / "short")
+    image = next(iter(disc))
+    os.truncate(image.path, 1 << 40)
+    for name, keys in ("check", False), ("check with keys", True):
+        same(name, [str(one) for one in disc.check(keys)], [f"UNREADABLE {image.raw('ReferencedFileID').decode()}"])
+    for wanted, function, *words in (
+            (f"{room}/long: 39 FileTooLong", dicomdir.read, room / "long"),
+            (f"{room}/long/DICOMDIR: 39 FileTooLong", dicomdir.read, room / "long/DICOMDIR"),
+            (f"{image.path}: 39 FileTooLong", image.read),
+            (f"{image.path}: 97 Changed", dicomdir.merge([disc]).write, room / "merged")):
+        same(wanted, fault_of(function, *words), ("Fault", wanted))
+    # Here bytes of the caller are too long, and a file whose length the system does not say beforehand.
+    there = _bytes.LONGEST
+    _bytes.LONGEST = _opening.LONGEST = 100
+    for function in dicomdir.FileSet, dicomdir.listing, dicomdir.of_image:
+        same("bytes", fault_of(function, bytes(101)), ("Fault", "39 FileTooLong"))
+    same("a file", fault_of(dicomdir.read, "/proc/cpuinfo"), ("Fault", "/proc/cpuinfo: 39 FileTooLong"))
+    _bytes.LONGEST = _opening.LONGEST = there
+    same("nothing is copied", [path.name for path in (room / "merged").rglob("IM*") if path.stat().st_size], [])
+
+
+HELD = """
+import resource, sys
+import dicomdir
+before = resource.getrusage(resource.RUSAGE_SELF).ru_maxrss
+disc = dicomdir.FileSet.build(sys.argv[2:]).write(sys.argv[1])
+print(len(disc), len(disc.check(keys=True)), (resource.getrusage(resource.RUSAGE_SELF).ru_maxrss - before) >> 10)
+"""
+
+
+def memory():
+    """A file is held once, and not while the next one is read: two images and two other files have 128 MiB each."""
+    size, sources = 128 << 20, []
+    for begins in *EXAMPLES[:2], *[TOP / "examples/ct1.DICOMDIR"] * 2:
+        sources += [EXAMPLES[2], room / f"large{len(sources)}"]
+        sources[-1].write_bytes(begins.read_bytes() + element(0x7FE00010, b"OW", b"")[:6] + bytes(2)
+                                + size.to_bytes(4, "little"))
+        os.truncate(sources[-1], sources[-1].stat().st_size + size)
+    ran = subprocess.run([sys.executable, "-c", HELD, room / "held", *sources], capture_output=True, check=True)
+    images, found, taken = map(int, ran.stdout.split())
+    same("large files", (images, found, taken < 1.25 * (size >> 20)), (3, 0, True))
+
+
+def element(tag, kind, value):
+    """An element in Explicit VR Little Endian, whose length has two bytes."""
+    value += b" " * (len(value) % 2)
+    group, number, length = (part.to_bytes(2, "little") for part in (tag >> 16, tag & 0xFFFF, len(value)))
+    return group + number + kind + length + value
+
+
+def red_image():
+    """An image whose Specific Character Set, with control characters, decides how a name is read."""
+    data = EXAMPLES[0].read_bytes()
+    first, name, after = (data.index(element(tag, kind, b"")[:6]) for tag, kind in (
+        (0x00080016, b"UI"), (0x00100010, b"PN"), (0x00100020, b"LO")))
+    return (data[:first] + element(0x00080005, b"CS", b"\x1b[31m\x9bRED\n") + data[first:name]
+            + element(0x00100010, b"PN", b"M\xfcller") + data[after:])
+
+
+def terminals():
+    """No control character of a disc gets into what is said of it, also where pydicom says it."""
+    def plain(what, text):
+        same(f"{what}: {text!r}", text.isprintable())
+    (room / "red.dcm").write_bytes(red_image())
+    disc = dicomdir.FileSet.build([room / "red.dcm"]).write(room / "re\x1b[31md")
+    image = next(iter(disc))
+    for action, wanted in ("error", "UnicodeWarning"), ("always", "none"):
+        with warnings.catch_warnings(record=True) as said:
+            warnings.simplefilter(action)
+            _text._warned.clear()
+            kind, words = fault_of(lambda: image.PatientName)
+            same(f"{action}: text", kind, wanted)
+            for number, function in enumerate((image.load, disc.patients[0].dataset,
+                                               lambda: disc.find(load=True, ManufacturerModelName="X"))):
+                same(f"{action}: {number}", fault_of(function)[0], "none")
+        plain(action, words + "".join(str(one.message) for one in said))
+    same("said once", len(said), 1)
+    patient_id, odd = element(0x00100020, b"LO", b"P1"), element(0x00101010, b"Z\x1b", b"1")
+    Path(image.path).write_bytes(red_image().replace(patient_id, patient_id + odd))
+    kind, words = fault_of(disc.find, load=True, PatientAge="1")
+    same("pydicom raises", kind, "NotImplementedError")
+    plain("pydicom", words)
+    other = dicomdir.FileSet(disc.data.replace(patient_id, element(0x00100020, b"LO", b"\x1bc")), disc.path)
+    for what in other.records, other, [str(one) for one in other.check()], dicomdir.merge([disc], "D").images:
+        plain("repr", repr(what))
+    plain("a fault", fault_of(dicomdir.read, disc.path + "/none")[1])
+
+
 def paths_stay_below():
     """A File ID that leads elsewhere has no path."""
     data = (room / "../examples.DICOMDIR").read_bytes()
@@ -141,6 +312,7 @@ def texts():
         warnings.simplefilter("always")
         same("alone: Latin-1", _text.text_of(b"M\xfcller", b"ISO_IR 100"), "Müller")
         same("alone: UTF-8", _text.text_of("王".encode(), b"ISO_IR 192"), "王")
+        same("alone: padding", _text.text_of("王".encode(), b" ISO_IR 192 "), "王")
         same("alone: ASCII", _text.text_of(b"A", b"ISO_IR 144"), "A")
         same("alone: nothing said", len(said), 0)
         same("alone: as Latin-1", _text.text_of(b"\xb8", b"ISO_IR 144"), "¸")
@@ -163,6 +335,11 @@ def prints():
     (room / "bad").mkdir()
     (room / "bad/DICOMDIR").write_bytes(b"x" * 200)
     same("no directory", main(room / "bad")[::2], (1, f"FAULT {room}/bad: 51 File 21 NotPart10\n"))
+    with open("/dev/full", "w") as full:
+        ran = subprocess.run([sys.executable, "-m", "dicomdir", folder], stdout=full, stderr=subprocess.PIPE,
+                             check=False)
+    same("a full disc", (ran.returncode, ran.stderr.decode()),
+         (1, "error: the output can't be written: No space left on device\n"))
 
 
 def imports():
@@ -233,6 +410,7 @@ def threads():
     same("threads", found, [True] * 8)
 
 
-for test in beside_pydicom, tree, known_files, paths_stay_below, texts, prints, imports, calls, threads:
+for test in (beside_pydicom, tree, discs, known_files, arguments, lengths, memory, terminals, paths_stay_below, texts,
+             prints, imports, calls, threads):
     test()
 print(f"package: {passed} answers are as wanted")

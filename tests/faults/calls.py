@@ -9,9 +9,9 @@ from rooms import DIRECTORY, OUTPUT, Command, count_kinds, harm, result_of, tell
 # It is opened first. Where a standard descriptor is closed, it stays open in its place.
 NULL = "/dev/null"
 
-# The errors that the calls fail with. EACCES and EINVAL are what a system says that can't store a folder, EMFILE is
-# what it says where the process has no more descriptors. EXDEV, EPERM and EMLINK are what it says of a hard link
-# to another file system, of one that it does not make, and of one too many.
+# The errors that the calls fail with. EINVAL and EOPNOTSUPP are what a file system says that can't store a folder,
+# EMFILE is what the system says where the process has no more descriptors. EXDEV, EPERM and EMLINK are what it says
+# of a hard link to another file system, of one that it does not make, and of one too many.
 ERRORS = {
     "statx": ("EIO", "EACCES", "EINTR"),
     "fstat": ("EIO", "EACCES", "EINTR"),
@@ -21,7 +21,7 @@ ERRORS = {
     "write": ("EIO", "ENOSPC", "EINTR"),
     "mkdir": ("EIO", "ENOSPC", "EINTR"),
     "link": ("EIO", "ENOSPC", "EXDEV", "EPERM", "EMLINK", "EEXIST", "EINTR"),
-    "fsync": ("EIO", "ENOSPC", "EINVAL", "EINTR"),
+    "fsync": ("EIO", "EACCES", "ENOSPC", "EINVAL", "EOPNOTSUPP", "EINTR"),
     "close": ("EIO", "ENOSPC", "EINTR"),
 }
 
@@ -81,13 +81,12 @@ def of_look(case, call, lasts):
     return case.command.words.split()[2] + ": 92 Absent" if lasts else None
 
 
-def of_folder(case, at, error):
+def of_folder(case, at):
     """A call to store a folder fails, or the look at one that was not made."""
     calls = case.right.calls
     if calls[at - 1].name == "mkdir" and calls[at - 1].path == calls[at].path:
         return folder_to_make(case, at) + ": 95 Folder"
-    # One that may not be opened is passed over.
-    return None if error == "EACCES" else calls[at].path + ": 96 Unsent"
+    return calls[at].path + ": 96 Unsent"
 
 
 def of_reading(case, at, error, lasts):
@@ -108,7 +107,7 @@ def of_reading(case, at, error, lasts):
     if is_on_the_way(calls, at):
         return of_reading(case, next_opened(calls, at), error, lasts)
     if is_folder(case, call.path):
-        return of_folder(case, at, error)
+        return of_folder(case, at)
     # A new name that is not the file that was found: the line names that file.
     if call.path in case.right.links:
         return case.right.links[call.path] + ": 92 Absent"
@@ -147,8 +146,8 @@ def consequence(case, at, error, lasts):
     # Files that wait to be stored are closed, and the call is made again.
     if error == "EMFILE" and not lasts and open_images(case, at) > 0:
         return None
-    # A folder that its system can't store is passed over.
-    if call.name == "fsync" and error == "EINVAL" and is_folder(case, call.path):
+    # A folder that its file system can't store is passed over.
+    if call.name == "fsync" and error in ("EINVAL", "EOPNOTSUPP") and is_folder(case, call.path):
         return None
     if call.name == "mkdir":
         return folder_to_make(case, at) + ": 95 Folder"

@@ -2,6 +2,7 @@
 moments. Nothing else may change, and the run gives its right answer, or a fault. For parallel; as root."""
 import concurrent.futures
 import os
+import pathlib
 import shutil
 import subprocess
 import time
@@ -49,6 +50,17 @@ for ((at = 0; at <= tasks; at++)); do
     (cd / && SLURM_ARRAY_TASK_ID=$at "$ROOM/copy.$$" "${@:3}" >>"$ROOM/job.log" 2>&1)
 done
 echo $$
+"""
+# The first call of such a tool waits, in the room of its run, until it may go on; mktemp after it has made the folder.
+WAITING = """#!/bin/sh
+tool=${0##*/}
+[ "$tool" != mktemp ] || made=$(/usr/bin/mktemp "$@") || exit
+if mkdir "$ROOM/$tool.came" 2>/dev/null; then
+    while [ ! -e "$ROOM/$tool.go" ]; do /bin/sleep 0.01; done
+fi
+[ "$tool" != mktemp ] || { echo "$made"; exit; }
+PATH=${PATH#*:}
+exec "$tool" "$@"
 """
 # What a run has in its folder.
 NAMES = ("from listed names states counts other linked piles log slots 1.names 1.states 1.claim 1.errors 1.fault 1 2 job "
@@ -186,6 +198,77 @@ def index(runs):
     return (*runs.run(words, room, dict(os.environ)), files_of(room / "place" / "OUT"))
 
 
+class Rival:
+    """One of two runs of a user that make file-sets in the same folder. It waits at its first call of some tools."""
+
+    def __init__(self, room, place, program, tools):
+        self.room, self.out = room, f"{place}/{room.name}"
+        (room / "tools").mkdir(parents=True)
+        for tool in (*tools, "ln"):
+            (room / "tools" / tool).write_text(WAITING)
+            (room / "tools" / tool).chmod(0o755)
+        room.chmod(0o777)
+        for name in NUMBERS:
+            (room / name).write_bytes(image(f"1.2.3.{name}{len(room.name)}".replace(".0", ".10"), room.name))
+        self.program, self.wanted = program, None
+        self.names = [str(room / name) for name in NUMBERS]
+
+    def begin(self):
+        """Notes what index says and makes of its sources, and begins."""
+        words = [self.program, "index", f"{self.room}.wanted", *self.names]
+        done = subprocess.run(words, cwd=self.room, capture_output=True, check=True)
+        self.wanted = 0, done.stdout, done.stderr, files_of(self.room.with_suffix(".wanted"))
+        environment = {**os.environ, "ROOM": str(self.room), "HOME": str(self.room), "DICOMDIR_PROGRAM": self.program,
+                       "PATH": f"{self.room}/tools:{os.environ['PATH']}"}
+        self.child = subprocess.Popen([PARALLEL, "-j2", self.out, *self.names], cwd=self.room, env=environment, user=USER,
+                                      group=GROUP, extra_groups=[], umask=0o022, stdin=subprocess.DEVNULL,
+                                      stdout=subprocess.PIPE, stderr=subprocess.PIPE)
+
+    def comes(self, tool):
+        """Waits until it calls the tool, or has ended."""
+        end = time.monotonic() + 60
+        while not (self.room / f"{tool}.came").exists() and self.child.poll() is None and time.monotonic() < end:
+            time.sleep(0.01)
+
+    def goes(self, tool):
+        """Lets it go on after this call."""
+        (self.room / f"{tool}.go").touch()
+
+    def ends(self):
+        """What it says and makes."""
+        output, errors = self.child.communicate(timeout=120)
+        return self.child.returncode, output, errors, files_of(pathlib.Path(self.out))
+
+
+def try_rivals(runs, program, tool):
+    """Has another user give one run the folder of another one, as soon as this has made or entered it, and neither has
+    begun to work there. Each makes what index does of its own sources."""
+    room = runs.work / f"rivals-{tool}"
+    place = room / "place"
+    place.mkdir(parents=True)
+    os.chown(place, USER, GROUP)
+    place.chmod(0o2770)
+    room.chmod(0o755)
+    one, two = Rival(room / "one", place, program, [tool]), Rival(room / "other", place, program, ["flock"])
+    two.begin()
+    two.comes("flock")
+    its = os.listdir(place)
+    one.begin()
+    one.comes(tool)
+    own = [name for name in os.listdir(place) if name not in its]
+    words = f"mv -T {own[0]} moved && mv -T {its[0]} {own[0]}"
+    subprocess.run(["sh", "-c", words], cwd=place, user=OTHER, group=GROUP, extra_groups=[], check=True)
+    one.goes(tool)
+    one.comes("ln")
+    two.goes("flock")
+    two.comes("ln")
+    for run in one, two:
+        run.goes("ln")
+        found = run.ends()
+        if found != run.wanted:
+            runs.fault(f"rivals, {tool}: {run.room.name}: {found[:3]}, or other files than those of {run.wanted[:3]}")
+
+
 def try_exchange(runs):
     """Exchanges the folders of both scripts. Gives how many runs came to the moment."""
     if os.geteuid() != 0 or subprocess.run([PARALLEL, "--help"], user=USER, group=GROUP, extra_groups=[],
@@ -199,6 +282,8 @@ def try_exchange(runs):
     tries = [(*moment, KINDS[at % len(KINDS)], sorted(MODES)[at // len(KINDS) % 2]) for at, moment in enumerate(moments)]
     with concurrent.futures.ThreadPoolExecutor(2 * (os.cpu_count() or 1)) as at_once:
         came = sum(at_once.map(lambda one: try_moment(runs, program, wanted, *one), tries))
+    for tool in "mktemp", "stat":
+        try_rivals(runs, program, tool)
     if came < len(tries) // 5:
         runs.fault(f"the folder was exchanged in {came} runs alone")
     return came

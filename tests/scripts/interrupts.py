@@ -61,8 +61,8 @@ def wait_for(is_there, seconds=120):
 class Run:
     """A run in a folder of its own, which waits in a phase, if one is named."""
 
-    def __init__(self, runs, name, phase=None, delay="0", out="OUT", terminal=False, hosts=False, more=None):
-        self.runs, self.name = runs, name
+    def __init__(self, runs, name, phase=None, delay="0", out="OUT", terminal=False, hosts=False, more=None, wrapped=None):
+        self.runs, self.name, self.out, self.wrapped = runs, name, out, wrapped
         self.room = runs.work / f"signal-{name}"
         self.inside, self.calls = self.room / "w", f"{self.room}.calls"
         (self.room / "tmp").mkdir(parents=True)
@@ -87,6 +87,8 @@ class Run:
     def begin(self, words, environment, terminal):
         """Begins the run: on a terminal of its own, which all three descriptors are, or with pipes."""
         self.terminal, self.child = None, None
+        if self.wrapped:
+            words = ["/bin/bash", "-c", self.wrapped, "bash", *words]
         if terminal:
             self.pid, self.terminal = pty.fork()
             if self.pid == 0:
@@ -161,11 +163,12 @@ class Run:
             change(self.inside)
         shutil.rmtree(self.inside / "OUT", ignore_errors=True)
         pathlib.Path(self.calls).unlink(missing_ok=True)
-        found = self.runs.run([PARALLEL, "-j3", "--resume", os.path.basename(folder), "OUT"], self.inside,
+        resume = os.fsdecode(os.path.relpath(folder, os.fsencode(self.inside)))
+        found = self.runs.run([PARALLEL, "-j3", "--resume", resume, self.out], self.inside,
                               self.runs.environment(self.room))
         wanted = self.runs.run([self.runs.program, "index", "ONE", *(f"{at:03}" for at in range(16))], self.inside,
                                dict(os.environ))
-        if found != wanted or tree(self.inside / "OUT") != tree(self.inside / "ONE"):
+        if found != wanted or tree(self.inside / self.out) != tree(self.inside / "ONE"):
             self.runs.fault(f"{self.name}: --resume says {found}, or makes another file-set")
         self.looks_clean()
         return sum(call.startswith("stage ") for call in pathlib.Path(self.calls).read_text().splitlines())
@@ -226,6 +229,36 @@ def try_any_time(runs, seed, latest):
         run.looks_clean()
         if not (run.inside / "OUT" / "DICOMDIR").exists() or not run.output.startswith(b"DONE 16 instances, "):
             runs.fault(f"{run.name}: it is not whole: {run.output + run.errors}")
+
+
+# What becomes of the error output before the run is ended: the disc that it goes to is full; nobody reads it any more; or
+# the terminal is closed, or its Ctrl-C ends the program that reads the output, too.
+LOST = {"full": 'exec "$@" 2>/dev/full', "closed": 'exec "$@" 2> >(exec true)', "hung-up": None,
+        "tee": '"$@" 2>&1 | tee log'}
+
+
+def try_lost(runs, kind):
+    """Ends a run whose error output is lost: its piles are kept as they are."""
+    terminal = LOST[kind] is None or "tee" in LOST[kind]
+    run = Run(runs, f"lost-{kind}", "publishing", terminal=terminal, wrapped=LOST[kind])
+    if not run.has_come("publishing"):
+        runs.fault(f"{run.name}: it did not come there")
+    folder = next(run.inside.glob(".dicomdir-parallel.*"))
+    piles = {path.name: tree(path) for path in folder.iterdir() if path.name.isdigit()}
+    if kind == "tee":
+        os.write(run.terminal, b"\x03")
+        run.read()
+    elif terminal:
+        os.close(run.terminal)
+    else:
+        os.kill(run.pid, signal.SIGTERM)
+    run.end()
+    wait_for(lambda: not processes(run.calls), 20)
+    if len(piles) != 8 or piles != {path.name: tree(path) for path in folder.glob("[0-9]") if path.is_dir()}:
+        runs.fault(f"{run.name}: the piles are not as they were: {sorted(tree(run.inside))[:9]}")
+        return
+    run.errors = b"dicomdir-parallel: 8 of 8 parts are in %s: --resume goes on with them\n" % os.fsencode(folder)
+    run.goes_on()
 
 
 # Kills itself in the place of the program, the first time or always, as it stages the second part.
@@ -293,7 +326,27 @@ def try_refused(runs):
         if found[0] != 2 or found[1] or b"--resume <FOLDER>" not in found[2]:
             runs.fault(f"--resume {words}: {found}")
     os.kill(run.pid, signal.SIGTERM)
-    run.is_ended_by(signal.SIGTERM, run.end())
+    status = run.end()
+    refuse_others(run, folder)
+    run.is_ended_by(signal.SIGTERM, status)
+
+
+def refuse_others(run, folder):
+    """Goes on with a run for its own OUT alone, and with its own list."""
+    cases = [("OUT2", None, "that run makes OUT, and not OUT2"),
+             ("OUT", "names", f"the list of names in {folder.name} was changed"),
+             ("OUT", "2.names", f"the list of names in {folder.name} was changed")]
+    for out, changed, wanted in cases:
+        before = changed and (folder / changed).read_bytes()
+        if changed:
+            (folder / changed).write_bytes(before.replace(b"2", b"0", 1))
+        standing = tree(run.inside)
+        found = run.runs.run([PARALLEL, "--resume", folder.name, out], run.inside,
+                             {**os.environ, "DICOMDIR_PROGRAM": run.runs.program})
+        if found != (1, b"", f"error: {wanted}\n".encode()) or tree(run.inside) != standing:
+            run.runs.fault(f"--resume {out}, with another {changed}: {found}, or something was changed")
+        if changed:
+            (folder / changed).write_bytes(before)
 
 
 def try_progress(runs):
@@ -323,6 +376,7 @@ def try_signals(runs):
     tries += [(try_any_time, seed, latest) for seed in range(12) for latest in (0.1, 3)]
     with concurrent.futures.ThreadPoolExecutor(2 * (os.cpu_count() or 1)) as at_once:
         begun = [at_once.submit(what, runs, *words) for what, *words in tries]
+        begun += [at_once.submit(try_lost, runs, kind) for kind in LOST]
         begun += [at_once.submit(try_killed, runs, hosts) for hosts in {False, runs.hosts}]
         begun += [at_once.submit(try_progress, runs), at_once.submit(try_refused, runs)]
         begun += [at_once.submit(try_killed_part, runs, number, always) for always in (False, True)
