@@ -1,13 +1,14 @@
 # Tests the prebuilt program; installs it, its scripts, their man pages and completions, the C library, the Python
 # package and the documents; and makes Debian packages of them, and a wheel.
-# PREFIX, LIBDIR, PYTHONDIR and DESTDIR may hold spaces. CPU is v2 or v3, and not taken from the environment.
+# PREFIX, LIBDIR, PYTHONDIR, PYTHON and DESTDIR may hold spaces. CPU is v2 or v3, and not taken from the environment.
 SHELL := /bin/sh
 PREFIX ?= /usr/local
 DESTDIR ?=
 LIBDIR ?= $(PREFIX)/lib
-PYTHONDIR ?= $(PREFIX)/lib/python3/dist-packages
+PYTHONDIR ?=
+PYTHON ?= /usr/bin/python3
 CPU := v2
-export PREFIX DESTDIR LIBDIR PYTHONDIR
+export PREFIX DESTDIR LIBDIR PYTHONDIR PYTHON
 
 programs.v2 := prebuilt/x86_64-linux-gnu/dicomdir
 programs.v3 := prebuilt/x86_64-linux-gnu/dicomdir-v3
@@ -22,7 +23,9 @@ bin := "$$DESTDIR$$PREFIX/bin"
 ours := $(share)/doc/dicomdir
 lib := "$$DESTDIR$$LIBDIR"
 include := "$$DESTDIR$$PREFIX/include"
-python := "$$DESTDIR$$PYTHONDIR/dicomdir"
+# Sets python to the folder of the Python package.
+find_python := python=$$(packaging/python-folder)/dicomdir
+python := "$$DESTDIR$$python"
 # A value as the second half of a command of sed.
 quoted = $$(printf '%s' "$$$(1)" | sed 's/[&|\\]/\\&/g')
 
@@ -32,9 +35,10 @@ help:
 	@echo '  make check      tests it in a few seconds, without network and root'
 	@echo '  make install    copies it, its scripts, man pages, completions and documents, the C library, its headers'
 	@echo '                  and the Python package to PREFIX, /usr/local by default; where DESTDIR is given, to that'
-	@echo '                  folder in place of /. LIBDIR is PREFIX/lib, PYTHONDIR PREFIX/lib/python3/dist-packages.'
+	@echo '                  folder in place of /. LIBDIR is PREFIX/lib. PYTHONDIR is the folder below PREFIX in which'
+	@echo '                  PYTHON looks for packages, which is /usr/bin/python3 by default.'
 	@echo '                  With CPU=v3 the program is the faster one, for processors of x86-64-v3 alone'
-	@echo '  make uninstall  removes these files again, from the same PREFIX, LIBDIR, PYTHONDIR and DESTDIR'
+	@echo '  make uninstall  removes these files again, from the same PREFIX, LIBDIR, PYTHONDIR, PYTHON and DESTDIR'
 	@echo '  make deb        makes Debian packages of them, in packaging/out'
 	@echo '  make wheel      makes a wheel of the Python package and the C library, in packaging/out'
 	@echo '  make quick      runs tests without proof, and the commands of README.md (CONTRIBUTING.md)'
@@ -69,7 +73,8 @@ install:
 	install -d $(lib)/pkgconfig
 	sed "s|@PREFIX@|$(call quoted,PREFIX)|; s|@LIBDIR@|$(call quoted,LIBDIR)|; s|@VERSION@|$(version)|" \
 		bindings/c/dicomdir.pc.in | install -m 644 /dev/stdin $(lib)/pkgconfig/dicomdir.pc
-	install -D -m 644 -t $(python) bindings/python/dicomdir/*.py bindings/python/dicomdir/py.typed
+	$(find_python) && install -D -m 644 -t $(python) bindings/python/dicomdir/*.py bindings/python/dicomdir/py.typed && \
+		ln -sf "$$(realpath -m -s "--relative-to=$$python" "$$LIBDIR/libdicomdir.so.1")" $(python)
 
 # Folders that other programs may have too are left.
 uninstall:
@@ -82,9 +87,10 @@ uninstall:
 	rm -f $(ours)/examples/tree.c $(ours)/examples/tree.py
 	rm -f $(lib)/libdicomdir.so.1 $(lib)/libdicomdir.so $(lib)/pkgconfig/dicomdir.pc
 	for name in $(headers); do rm -f $(include)/$$name || exit 1; done
-	rm -rf $(python)/__pycache__
-	rm -f $(python)/*.py $(python)/py.typed
-	for folder in $(ours)/docs/images $(ours)/docs $(ours)/examples $(ours) $(share)/dicomdir $(python); do \
+	$(find_python) && rm -rf $(python)/__pycache__ && \
+		rm -f $(python)/*.py $(python)/py.typed $(python)/libdicomdir.so.1 && \
+		if [ -d $(python) ]; then rmdir --ignore-fail-on-non-empty $(python); fi
+	for folder in $(ours)/docs/images $(ours)/docs $(ours)/examples $(ours) $(share)/dicomdir; do \
 		if [ -d "$$folder" ]; then rmdir --ignore-fail-on-non-empty "$$folder"; fi; done
 
 check:

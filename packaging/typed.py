@@ -33,6 +33,7 @@ CASES = [
     ("merge --l", "merge --link "),
     ("withdraw --d", "withdraw --dry-run "),
     ("stage --fr", "stage --from "),
+    ("stage --k", "stage --keep-going "),
     ("stage --from tw", "stage --from two\\ folders/"),
     ("stage one/ one.", "stage one/ one.dcm "),
     ("publish --l", "publish --link "),

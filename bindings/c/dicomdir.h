@@ -25,8 +25,9 @@
 extern "C" {
 #endif
 
-/* What dicomdir_interface() answers: another number where a function is gone, or does something else. */
-#define DICOMDIR_INTERFACE 1
+/* What dicomdir_interface() answers. It rises with each function that is added; one that is gone, or does something
+ * else, gives the library another name. */
+#define DICOMDIR_INTERFACE 2
 
 /* Statuses that no fault of docs/FAULTS.md has. */
 enum { DICOMDIR_DONE = 0, DICOMDIR_NO_ROOM = 1, DICOMDIR_ARGUMENTS = 2 };
@@ -34,8 +35,9 @@ enum { DICOMDIR_DONE = 0, DICOMDIR_NO_ROOM = 1, DICOMDIR_ARGUMENTS = 2 };
 /* What a call answers beside its outputs. Whatever does not apply is 0. */
 struct dicomdir_answer {
     uint64_t text;   /* how many bytes of text there are */
-    uint64_t rows;   /* how many rows; of a merge, images; of the front, values; of findings, files */
-    uint64_t files;  /* of a merge or a withdrawal: how many bytes all File IDs have */
+    uint64_t rows;   /* how many rows; of a merge, images; of the front, values; of findings, files; of spellings,
+                        names */
+    uint64_t files;  /* of a merge or a withdrawal: how many bytes all File IDs have; of notes, how many texts */
     uint64_t source; /* the number of the input at fault, from 0 */
     uint32_t fault;  /* the status again, where it is 2 or more */
     uint32_t within; /* the fault that is its cause: 21 to 27 */
@@ -86,6 +88,28 @@ struct dicomdir_finding {
     uint32_t cause;  /* of DICOMDIR_NOT_DICOM: 1 to 10, or 0 */
 };
 
+/* What a merge notes: the lines NOTE of `dicomdir index`. */
+enum { DICOMDIR_LEFT_OUT = 1, DICOMDIR_NAMES };
+
+struct dicomdir_note {
+    uint64_t kind;  /* DICOMDIR_LEFT_OUT: a file is left out, since other bytes are kept of its instance. It has three
+                       texts: its File ID, the File ID of the kept file, and the SOP Instance UID of both.
+                       DICOMDIR_NAMES: a Patient ID has several Patient's Names. It has the Patient ID and these names
+                       as texts */
+    uint64_t set;   /* of DICOMDIR_LEFT_OUT the number of the directory with the file, else 0 */
+    uint64_t kept;  /* of DICOMDIR_LEFT_OUT the number of the directory with the kept file, else 0 */
+    uint64_t names; /* of DICOMDIR_NAMES how many names there are, else 0 */
+};
+
+/* The images of the directories of a merge, by what became of them: the line SUM of `dicomdir merge`. */
+struct dicomdir_sum {
+    uint64_t images;    /* all of them */
+    uint64_t kept;      /* those of the new directory, each once */
+    uint64_t left_out;  /* those of whose instance other bytes are kept */
+    uint64_t repeated;  /* the others: each repeats one that is kept */
+    uint64_t withdrawn; /* those whose instance is withdrawn */
+};
+
 /* DICOMDIR_INTERFACE of the library. */
 uint32_t dicomdir_interface(void);
 
@@ -123,6 +147,17 @@ uint32_t dicomdir_rows(const uint8_t *bytes, size_t bytes_len, const uint32_t *t
  * 0, 1, 51 to 58, 91. */
 uint32_t dicomdir_front(const uint8_t *bytes, size_t bytes_len, uint64_t *ends, size_t ends_len, uint8_t *text,
                         size_t text_len, uint64_t *unreached, struct dicomdir_answer *answer);
+
+/* Gives the names under which a system may show a file or folder of a disc (ISO 9660), in the order in which the
+ * program looks for them: the first that is there, and is no symbolic link, is taken.
+ *
+ * name  a part of a File ID
+ * ends  room for answer->rows numbers, which are 8: where each name ends in `text`
+ * text  room for answer->text bytes
+ *
+ * 0, 1, 91. */
+uint32_t dicomdir_spellings(const uint8_t *name, size_t name_len, uint64_t *ends, size_t ends_len, uint8_t *text,
+                            size_t text_len, struct dicomdir_answer *answer);
 
 /* Finds what `dicomdir check` would find of files, where the caller has read these.
  *
@@ -172,6 +207,21 @@ uint32_t dicomdir_merge(const uint8_t *bytes, size_t bytes_len, const uint64_t *
                         const uint8_t *id, size_t id_len, const uint8_t *uid, size_t uid_len, uint8_t *out,
                         size_t out_len, uint64_t *sets, size_t sets_len, uint64_t *file_ends, size_t file_ends_len,
                         uint8_t *files, size_t files_len, struct dicomdir_answer *answer);
+
+/* Gives what dicomdir_merge of the same directories leaves out, and the Patient IDs with several names.
+ *
+ * bytes, ends, id, uid  as in dicomdir_merge
+ * notes      room for answer->rows notes: files that are left out, as they came, and then Patient IDs, rising
+ * text_ends  room for answer->files numbers: where each text of the notes ends in `text`
+ * text       room for answer->text bytes: the texts of the first note, then those of the next. A name is in the
+ *            character set of its file
+ * sum        how many images there are; written as the outputs are
+ *
+ * As dicomdir_merge. */
+uint32_t dicomdir_notes(const uint8_t *bytes, size_t bytes_len, const uint64_t *ends, size_t ends_len,
+                        const uint8_t *id, size_t id_len, const uint8_t *uid, size_t uid_len,
+                        struct dicomdir_note *notes, size_t notes_len, uint64_t *text_ends, size_t text_ends_len,
+                        uint8_t *text, size_t text_len, struct dicomdir_sum *sum, struct dicomdir_answer *answer);
 
 /* Gives the directory of the images of one directory without some, which it names as withdrawn for good: the one that
  * `dicomdir withdraw` makes.

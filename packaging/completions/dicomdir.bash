@@ -15,7 +15,7 @@ _dicomdir_options()
         index) echo '--id --uid --max-bytes --strict --dry-run --quiet --verbose --json --files0-from -k --keep-going -h --help' ;;
         merge) echo '--id --uid --max-bytes --strict --dry-run --quiet --verbose --json --files0-from --link -h --help' ;;
         withdraw) echo '--id --uid --max-bytes --strict --dry-run --quiet --verbose --json -h --help' ;;
-        stage) echo '--quiet --verbose --json --files0-from --from -h --help' ;;
+        stage) echo '--quiet --verbose --json --files0-from --from -k --keep-going -h --help' ;;
         publish) echo '--id --uid --max-bytes --strict --dry-run --quiet --verbose --json --files0-from --link --from -h --help' ;;
         check) echo '--keys --strict --quiet --verbose --json -h --help' ;;
         list) echo '--long --verbose --json -h --help' ;;

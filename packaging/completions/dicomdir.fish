@@ -39,7 +39,7 @@ complete -c dicomdir -n '__fish_seen_subcommand_from index merge withdraw stage 
     -d 'Prints each line as a JSON object'
 complete -c dicomdir -n '__fish_seen_subcommand_from index merge stage publish' -l files0-from -r -F \
     -d 'Reads names from FILE, or -, ended by zero bytes'
-complete -c dicomdir -n '__fish_seen_subcommand_from index' -s k -l keep-going \
+complete -c dicomdir -n '__fish_seen_subcommand_from index stage' -s k -l keep-going \
     -d 'Skips a SRC that can'\''t be opened or read; the status is then 3'
 complete -c dicomdir -n '__fish_seen_subcommand_from merge publish' -l link \
     -d 'Makes hard links to the images in place of copies'

@@ -12,4 +12,5 @@ from ._bytes import listing, of_image
 from ._faults import FAULTS, Fault
 from ._records import FileSet, Finding, Record, read
 
+__version__ = "1.1.0"
 __all__ = ["FAULTS", "Built", "Fault", "FileSet", "Finding", "Record", "listing", "merge", "of_image", "read"]

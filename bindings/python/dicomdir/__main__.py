@@ -1,9 +1,11 @@
 """Prints what is on a disc: python -m dicomdir FOLDER."""
+import os
 import sys
 from io import TextIOWrapper
 from typing import List
 
 from . import Fault, Record, read
+from ._text import printable
 
 # What is shown of a record of each type.
 _SHOWN = {"PATIENT": ("PatientID", "PatientName"), "STUDY": ("StudyDate", "StudyDescription"),
@@ -15,8 +17,7 @@ def line_of(record: Record) -> str:
     words = [record.record_type, *(record.get(name) or "-" for name in _SHOWN.get(record.record_type, ()))]
     words += [record.path] if record.path else []
     words += [] if record.in_use else ["(not in use)"]
-    line = "  " * record.level + " ".join(words)
-    return "".join(letter if letter.isprintable() else "?" for letter in line)
+    return printable("  " * record.level + " ".join(words))
 
 
 def main(words: List[str]) -> int:
@@ -29,11 +30,15 @@ def main(words: List[str]) -> int:
     try:
         for record in read(words[0]).records:
             print(line_of(record))
+        print(end="", flush=True)
     except Fault as fault:
         print(f"FAULT {fault}", file=sys.stderr)
         return 1
-    except BrokenPipeError:
-        sys.stderr.close()
+    except OSError as error:
+        # What is left is not written again at the end.
+        os.dup2(os.open(os.devnull, os.O_WRONLY), sys.stdout.fileno())
+        if not isinstance(error, BrokenPipeError):
+            print(f"error: the output can't be written: {error.strerror}", file=sys.stderr)
         return 1
     return 0
 

@@ -1,12 +1,12 @@
 """New file-sets: their directories are made by the library, and their files are copied here."""
 import os
 from hashlib import sha256
-from typing import Callable, Iterable, List, NamedTuple, Optional, Tuple, Union
+from typing import Any, Callable, Iterable, List, NamedTuple, Optional, Tuple, Union
 
 from . import _bytes
 from ._bytes import DIGEST
 from ._faults import Fault
-from ._opening import open_below, open_source, parts_of, pieces, read_source, spellings
+from ._opening import open_below, open_source, parts_of, pieces, read_source
 from ._records import FileSet, Record
 
 Path = Union[str, "os.PathLike[str]"]
@@ -20,15 +20,26 @@ class Source(NamedTuple):
     open: Callable[[], int]
 
 
+class LeftOut(NamedTuple):
+    """A file that is left out, since other bytes are kept of its instance."""
+    path: str
+    kept: str
+    uid: str
+
+
 class Built:
     """A file-set that is not written yet.
 
-    `directory` has the bytes of its DICOMDIR, `images` a (source, record) for each image, and `skipped` a
-    (source, fault) for each file that `build` left out.
+    `directory` has the bytes of its DICOMDIR, and `images` a (source, record) for each image. What `index` and `merge`
+    say beside that: `skipped` has a (source, fault) for each file that is no image to `build`, and `left_out` a
+    (path, kept, uid) for each file of whose instance other bytes are kept. `repeated` counts the files that repeat one
+    that is kept, and `names` has the names of each Patient ID that has several.
     """
 
-    def __init__(self, made: _bytes.Made, sources: List[Source], skipped: List[Tuple[str, Fault]]) -> None:
+    def __init__(self, made: _bytes.Made, sources: List[Source], skipped: List[Tuple[str, Fault]],
+                 left_out: List[LeftOut], notes: _bytes.Notes) -> None:
         self.directory, self.skipped, self._sources = made.directory, skipped, sources
+        self.left_out, self.repeated, self.names = left_out, notes.repeated, notes.names
         records = list(FileSet(made.directory))
         if len(records) != len(sources):
             raise SystemError("libdicomdir picked other files than its directory names")
@@ -143,7 +154,7 @@ def _open_folder(path: str) -> int:
 
 
 def _refuse_taken(folder: str) -> None:
-    for name in spellings("DICOMDIR"):
+    for name in _bytes.spellings("DICOMDIR"):
         if os.path.lexists(os.path.join(folder, name)):
             raise Fault(94, path=os.path.join(folder, "DICOMDIR"))
 
@@ -199,6 +210,8 @@ def _copy(source: Source, below: int, name: str, path: str) -> bytes:
         _store(new, path)
     except OSError as error:
         raise Fault(93, path=source.path) from error
+    except Fault as fault:
+        raise (Fault(97, path=source.path) if fault.status == 39 else fault) from fault.__cause__
     finally:
         os.close(new)
     return digest.digest()
@@ -214,23 +227,37 @@ def _opener(path: str) -> Callable[[], int]:
     return lambda: open_source(path)
 
 
-def build(paths: Iterable[Path], set_id: str, uid: str) -> Built:
-    """What `dicomdir index` makes of image files; those that it would skip are skipped. Raises Fault: 92 Absent and
-    93 Unread of a path, 41 to 43 where the images have no directory, 71 and 72 of `uid` and `set_id`."""
+def build(paths: Iterable[Path], set_id: str, uid: str, strict: bool) -> Built:
+    """What `dicomdir index` makes of image files; those that it would skip are skipped. Raises Fault: 71 and 72 of
+    `uid` and `set_id` before a file is opened, 92 Absent and 93 Unread of a path, 41 to 43 where the images have no
+    directory, and with `strict` 98 Strict where something is skipped or noted."""
+    asked = listed(paths, "build takes a list of paths")
+    _bytes.merge([], set_id, uid)
     parts: List[bytes] = []
     kept: List[Source] = []
     skipped: List[Tuple[str, Fault]] = []
-    for path in (os.fspath(one) for one in paths):
-        data = read_source(path)
+    for path in map(os.fsdecode, asked):
         try:
-            parts.append(_bytes.of_image(data))
+            parts.append(_bytes.of_image(read_source(path)))
             kept.append(Source(path, _opener(path)))
         except Fault as fault:
             if not 31 <= fault.status <= 39:
-                raise fault.with_path(path) from None
-            skipped.append((path, fault))
-    made = _bytes.merge(parts, set_id, uid)
-    return Built(made, [kept[number] for number, _ in made.picks], skipped)
+                raise fault.with_path(path) from fault.__cause__
+            # A new one, as a fault that was raised keeps the bytes.
+            skipped.append((path, Fault(fault.status, fault)))
+    made, notes = _bytes.merge(parts, set_id, uid), _bytes.notes(parts, set_id, uid)
+    if strict and (skipped or notes.left_out or notes.names):
+        raise Fault(98)
+    left_out = [LeftOut(kept[file].path, kept[other].path, instance)
+                for (file, _), (other, _), instance in notes.left_out]
+    return Built(made, [kept[number] for number, _ in made.picks], skipped, left_out, notes)
+
+
+def listed(given: Iterable[Any], wanted: str) -> List[Any]:
+    """A list, and not one text, whose letters Python would give one by one: TypeError."""
+    if isinstance(given, (str, bytes, os.PathLike)):
+        raise TypeError(f"{wanted}, and not {given!r}")
+    return list(given)
 
 
 def _member(folder: Optional[str], file_id: str) -> Source:
@@ -243,13 +270,18 @@ def _member(folder: Optional[str], file_id: str) -> Source:
     return Source(os.path.join(folder or "", *parts), opened)
 
 
-def _of_sets(made: _bytes.Made, filesets: List[FileSet]) -> Built:
-    return Built(made, [_member(filesets[number].path, file_id) for number, file_id in made.picks], [])
+def _of_sets(made: _bytes.Made, filesets: List[FileSet], notes: _bytes.Notes) -> Built:
+    def member(place: Tuple[int, str]) -> Source:
+        return _member(filesets[place[0]].path, place[1])
+    left_out = [LeftOut(member(file).path, member(other).path, instance) for file, other, instance in notes.left_out]
+    return Built(made, [member(place) for place in made.picks], [], left_out, notes)
 
 
 def withdraw(fileset: FileSet, uids: Iterable[str], set_id: str, uid: str) -> Built:
     """What `dicomdir withdraw` makes of a file-set."""
-    return _of_sets(_bytes.withdraw(fileset.data, uids, set_id, uid), [fileset])
+    asked = listed(uids, "withdraw takes a list of SOP Instance UIDs")
+    made = _bytes.withdraw(fileset.data, asked, set_id, uid)
+    return _of_sets(made, [fileset], _bytes.notes([made.directory]))
 
 
 def merge(filesets: Iterable[FileSet], set_id: str = "", uid: str = "") -> Built:
@@ -257,9 +289,12 @@ def merge(filesets: Iterable[FileSet], set_id: str = "", uid: str = "") -> Built
 
     Raises Fault: 51 to 65 of a file-set, which is number `source`; 41 to 43, 71 and 72.
     """
-    sets = list(filesets)
+    sets = listed(filesets, "merge takes a list of file-sets")
+    if not all(isinstance(one, FileSet) for one in sets):
+        raise TypeError("merge takes a list of file-sets, as `read` gives them")
     try:
-        return _of_sets(_bytes.merge([one.data for one in sets], set_id, uid), sets)
+        data = [one.data for one in sets]
+        return _of_sets(_bytes.merge(data, set_id, uid), sets, _bytes.notes(data, set_id, uid))
     except Fault as fault:
         if not 51 <= fault.status <= 65:
             raise

@@ -1,18 +1,27 @@
 """The functions of dicomdir.h over bytes, without files."""
 from array import array
-from typing import Any, Callable, Iterable, List, NamedTuple, Sequence, Tuple, Union
+from functools import lru_cache
+from typing import Any, Callable, Dict, Iterable, List, NamedTuple, Sequence, Tuple, Union
 
 from ._calls import Answer, Input, Room, ask
 from ._faults import Fault
 
 Data = Union[bytes, bytearray, memoryview]
+# No file of a file-set is longer.
+LONGEST = 2 ** 32 - 1
 # What is given of a file to `find_in_files`.
 ABSENT, UNREADABLE, WHOLE, DIGEST, HEAD = range(5)
+# The kind of a note on a file that is left out. The other kind names a Patient ID.
+_LEFT_OUT = 1
 
 
 def as_bytes(data: Data) -> bytes:
-    """The same bytes, copied where somebody may change them."""
-    return data if type(data) is bytes else bytes(data)
+    """The same bytes, copied where somebody may change them. Raises TypeError for what is no bytes, as a number, and
+    Fault: 39 FileTooLong."""
+    view = memoryview(data)
+    if view.nbytes > LONGEST:
+        raise Fault(39)
+    return data if type(data) is bytes else bytes(view)
 
 
 def _asked(name: str, inputs: Sequence[Input], rooms: Sequence[Room], sizes: Callable[[Answer], Sequence[int]],
@@ -82,6 +91,15 @@ def front(data: bytes) -> Front:
     return Front(set_id, uid, withdrawn.split("\\") if withdrawn else [], unreached[0])
 
 
+@lru_cache(maxsize=4096)
+def spellings(name: str) -> Tuple[str, ...]:
+    """The names under which systems show a recorded name, in the order in which they are looked for (docs/DISCS.md)."""
+    data = name.encode("ascii")
+    _, (ends, text) = _asked("spellings", [data], [Room("Q", 1, 8), Room("B", 1, 8 * len(data) + 12)],
+                             lambda answer: [answer.rows, answer.text])
+    return tuple(shown.decode("ascii") for shown in _cut(text.tobytes(), ends))
+
+
 class Found(NamedTuple):
     """What is found of a file: struct dicomdir_finding of dicomdir.h."""
     kind: int
@@ -129,6 +147,31 @@ def merge(directories: Iterable[Data], set_id: str = "", uid: str = "") -> Made:
     """The directory of the images of all these, as `dicomdir merge` makes it."""
     data, ends = _ended(map(as_bytes, directories))
     return _made("merge", [data, (ends, 1)], len(data), set_id, uid)
+
+
+class Notes(NamedTuple):
+    """What a merge leaves out: of each file and of the one that is kept the number of the input and the File ID, and
+    the SOP Instance UID of both. The Patient IDs with several names, and how many images repeat one that is kept."""
+    left_out: List[Tuple[Tuple[int, str], Tuple[int, str], str]]
+    names: Dict[str, List[str]]
+    repeated: int
+
+
+def notes(directories: Iterable[Data], set_id: str = "", uid: str = "") -> Notes:
+    """What `merge` of the same directories leaves out."""
+    data, ends = _ended(map(as_bytes, directories))
+    _, (rows, text_ends, text, (_, _, _, repeated, _)) = _asked(
+        "notes", [data, (ends, 1), _text(set_id), _text(uid)],
+        [Room("Q", 4, 16), Room("Q", 1, 64), Room("B", 1, 4096), Room("Q", 5, 1)],
+        lambda answer: [answer.rows, answer.files, answer.text, 1], lone=True)
+    made, texts = Notes([], {}, repeated), iter(_cut(text.tobytes(), text_ends))
+    for kind, number, kept, names in zip(rows[::4], rows[1::4], rows[2::4], rows[3::4]):
+        first, *others = (next(texts).decode("latin-1") for _ in range(3 if kind == _LEFT_OUT else names + 1))
+        if kind == _LEFT_OUT:
+            made.left_out.append(((number, first), (kept, others[0]), others[1]))
+        else:
+            made.names[first] = others
+    return made
 
 
 def withdraw(directory: Data, uids: Iterable[str], set_id: str = "", uid: str = "") -> Made:

@@ -1,14 +1,11 @@
 """Reads the files of a file-set, and has the library say what is found of them."""
-import os
 from hashlib import sha256
 from typing import Iterable, Iterator, List, Optional, Tuple, Union
 
-from ._bytes import ABSENT, DIGEST, HEAD, UNREADABLE, WHOLE, Data, Found, as_bytes, find_in_files
+from ._bytes import ABSENT, DIGEST, HEAD, LONGEST, UNREADABLE, WHOLE, Data, Found, as_bytes, find_in_files
 from ._faults import Fault
 from ._opening import open_below, parts_of, pieces, read_whole
 
-# No file of a file-set is longer.
-_LONGEST = 2 ** 32 - 1
 # The library reads the directory anew for each call, so a call gets files of this many bytes.
 _BATCH = 64 << 20
 # What a caller knows of a file: all its bytes, its SHA-256 with its head or without, or that it can't be opened.
@@ -18,15 +15,21 @@ _File = Tuple[int, int, bytes]
 
 
 def findings(directory: bytes, files: Iterable[_File], keys: bool, strict: bool) -> Iterator[Tuple[int, Found]]:
-    """What is found of these files, each by the number of its record."""
+    """What is found of these files, each by the number of its record. A long one is given alone, so that its bytes are
+    not copied, and is not held while the next one is read."""
     batch: List[_File] = []
     size = 0
     for file in files:
+        length = len(file[2])
+        if size + length > _BATCH:
+            yield from _found(directory, batch, keys, strict)
+            size = 0
         batch.append(file)
-        size += len(file[2])
+        size += length
+        del file
         if size > _BATCH:
             yield from _found(directory, batch, keys, strict)
-            batch, size = [], 0
+            size = 0
     yield from _found(directory, batch, keys, strict)
 
 
@@ -35,7 +38,7 @@ def as_known(row: int, given: Known) -> _File:
     if given is None:
         return row, ABSENT, b""
     if not isinstance(given, tuple):
-        return row, WHOLE, as_bytes(given)
+        return (row, WHOLE, as_bytes(given)) if memoryview(given).nbytes <= LONGEST else (row, UNREADABLE, b"")
     digest, head = given
     if len(digest) != 32:
         raise ValueError("a SHA-256 has 32 bytes")
@@ -48,8 +51,11 @@ def in_folder(folder: str, row: int, file_id: bytes, whole: bool) -> _File:
 
 
 def _found(directory: bytes, batch: List[_File], keys: bool, strict: bool) -> List[Tuple[int, Found]]:
+    """What is found of a batch, which is emptied."""
     found = find_in_files(directory, batch, keys, strict) if batch else []
-    return [(row, one) for (row, _, _), one in zip(batch, found) if one.kind]
+    rows = [row for row, _, _ in batch]
+    batch.clear()
+    return [(row, one) for row, one in zip(rows, found) if one.kind]
 
 
 def _given(folder: str, file_id: bytes, whole: bool) -> Tuple[int, bytes]:
@@ -60,9 +66,6 @@ def _given(folder: str, file_id: bytes, whole: bool) -> Tuple[int, bytes]:
         opened = open_below(folder, parts)
     except OSError:
         return ABSENT, b""
-    if os.fstat(opened).st_size > _LONGEST:
-        os.close(opened)
-        return UNREADABLE, b""
     try:
         return (WHOLE, read_whole(opened, folder)) if whole else (DIGEST, _digest_of(opened))
     except (OSError, Fault):

@@ -1,6 +1,8 @@
 """The numbers and words of docs/FAULTS.md."""
 from typing import Any, Optional
 
+from ._text import printable
+
 FAULTS = {
     1: "Truncated", 2: "Order", 3: "BadVr", 4: "Reserved", 5: "OddLength", 6: "UndefinedLength", 7: "UnexpectedTag",
     8: "BadDelimiter", 9: "Overrun", 10: "TooDeep", 21: "NotPart10", 22: "GroupLength", 23: "MetaMissing",
@@ -9,7 +11,7 @@ FAULTS = {
     41: "Conflict", 42: "TooMany", 43: "TooLarge", 51: "File", 52: "NotDirectory", 53: "RecordShape", 54: "Dangling",
     55: "Twice", 56: "LastRoot", 58: "TooDeep", 61: "NoDigest", 62: "ForeignRecord", 63: "RecordKey",
     65: "BadWithdrawal", 71: "BadUid", 72: "BadSetId", 91: "Memory", 92: "Absent", 93: "Unread", 94: "Create",
-    95: "Folder", 96: "Unsent", 97: "Changed"}
+    95: "Folder", 96: "Unsent", 97: "Changed", 98: "Strict"}
 # The faults whose words name the offset of a record.
 _PLACED = (53, 54, 55, 58, 61, 62, 63)
 # Numbers below this one are causes. As the status of a call they are no faults of docs/FAULTS.md.
@@ -22,14 +24,14 @@ class Fault(ValueError):
 
     `status` is its number, `within` and `cause` are the numbers of its causes. `at` is the offset of a record, `tag` a
     tag as 0x00100020, and `source` the number of the input at fault. Each is 0 where it does not apply. `path` is the
-    file or folder that it concerns, if any.
+    file or folder that it concerns, if any; as text it has `?` for what can't be printed.
     """
 
     def __init__(self, status: int, answer: Any = None, path: Optional[str] = None) -> None:
         self.status, self.path = status, path
         self.within, self.cause, self.at, self.tag, self.source = (
             getattr(answer, name, 0) for name in ("within", "cause", "at", "tag", "source"))
-        super().__init__(self.words if path is None else f"{path}: {self.words}")
+        super().__init__(self.words if path is None else f"{printable(path)}: {self.words}")
 
     @property
     def words(self) -> str:

@@ -1,13 +1,13 @@
-"""Finds and loads libdicomdir.so.1: the one beside this file, as in the wheel, or the system's."""
+"""Finds and loads libdicomdir.so.1: the one beside this file, which `make install` links there, or the system's."""
 import ctypes
 import os
 import platform
 import sys
 
-_INTERFACE = 1
+_INTERFACE = 2
 # What /proc/cpuinfo calls the parts of x86-64-v2.
 _NEEDED = ("cx16", "lahf_lm", "popcnt", "pni", "sse4_1", "sse4_2", "ssse3")
-_FUNCTIONS = ("interface", "list", "rows", "front", "findings", "of_image", "merge", "withdraw")
+_FUNCTIONS = ("interface", "list", "rows", "front", "spellings", "findings", "of_image", "merge", "notes", "withdraw")
 
 
 def _look_at_machine() -> None:
@@ -34,8 +34,8 @@ def _load() -> ctypes.CDLL:
             getattr(loaded, "dicomdir_" + name).restype = ctypes.c_uint32
     except (OSError, AttributeError) as error:
         raise ImportError(f"dicomdir needs its C library: {error}") from error
-    if loaded.dicomdir_interface() != _INTERFACE:
-        raise ImportError("libdicomdir.so.1 has another interface than this package")
+    if loaded.dicomdir_interface() < _INTERFACE:
+        raise ImportError("libdicomdir.so.1 is older than this package")
     return loaded
 
 

@@ -4,8 +4,10 @@ import errno
 import os
 import re
 import stat
+from io import BytesIO
 from typing import Iterator, List, Optional, Sequence
 
+from ._bytes import LONGEST, spellings
 from ._faults import Fault
 
 _FLAGS = os.O_RDONLY | os.O_CLOEXEC | os.O_NOFOLLOW
@@ -13,12 +15,6 @@ _FOLDER = _FLAGS | os.O_DIRECTORY
 _PIECE = 1 << 20
 # What nearly all are (PS3.10 section 8.2).
 _FILE_ID = re.compile(rb"[A-Z0-9_]+(?:\\[A-Z0-9_]+)*")
-
-
-def spellings(name: str) -> List[str]:
-    """The names that systems show of a recorded name, in the order in which they are looked for (docs/DISCS.md)."""
-    small = name.lower()
-    return [name, small, name + ".;1", name + ";1", name + ".", small + ".;1", small + ";1", small + "."]
 
 
 def parts_of(file_id: bytes) -> Optional[List[str]]:
@@ -33,14 +29,32 @@ def _is_plain(part: str) -> bool:
     return part not in ("", ".", "..") and "/" not in part and part.isascii() and part.isprintable()
 
 
-def _open_part(above: int, name: str, flags: int) -> int:
-    for spelled in spellings(name):
+def _first_held(name: str, folder: str, at: Optional[int] = None) -> str:
+    """The first of the names under which systems show a recorded name that is there, and is no link: the name in the
+    folder, which is below the descriptor `at`. Raises OSError."""
+    refused: OSError = FileNotFoundError(errno.ENOENT, os.strerror(errno.ENOENT), name)
+    for shown in spellings(name):
         try:
-            return os.open(spelled, flags, dir_fd=above)
+            if not stat.S_ISLNK(os.stat(os.path.join(folder, shown), dir_fd=at, follow_symlinks=False).st_mode):
+                return shown
         except OSError as error:
-            if error.errno not in (errno.ENOENT, errno.ELOOP, errno.ENOTDIR):
-                raise
-    raise FileNotFoundError(errno.ENOENT, os.strerror(errno.ENOENT), name)
+            if refused.errno == errno.ENOENT:
+                refused = error
+    raise refused
+
+
+def path_below(folder: Optional[str], parts: Sequence[str]) -> str:
+    """The path of the file at these parts below the folder: as a system shows it, or as recorded where it is not there
+    and where there is no folder."""
+    if folder is not None:
+        path = folder
+        try:
+            for part in parts:
+                path = os.path.join(path, _first_held(part, path))
+            return path
+        except OSError:
+            pass
+    return os.path.join(folder or "", *parts)
 
 
 def open_below(folder: str, parts: Sequence[str]) -> int:
@@ -49,7 +63,7 @@ def open_below(folder: str, parts: Sequence[str]) -> int:
     for number, part in enumerate(parts):
         last = number == len(parts) - 1
         try:
-            below = _open_part(at, part, _FLAGS | os.O_NONBLOCK if last else _FOLDER)
+            below = os.open(_first_held(part, "", at), _FLAGS | os.O_NONBLOCK if last else _FOLDER, dir_fd=at)
         finally:
             os.close(at)
         at = below
@@ -70,26 +84,37 @@ def _plain(opened: int) -> int:
 
 
 def pieces(opened: int) -> Iterator[bytes]:
-    """The bytes of a descriptor, which is closed at the end. Raises OSError."""
+    """The bytes of a descriptor, which is closed at the end. Raises OSError, and Fault: 39 FileTooLong, before the
+    first piece where the file has that length already."""
     try:
-        piece = os.read(opened, _PIECE)
-        while piece:
-            yield piece
+        length, done = os.fstat(opened).st_size, 0
+        while max(length, done) <= LONGEST:
             piece = os.read(opened, _PIECE)
+            if not piece:
+                return
+            done += len(piece)
+            yield piece
+        raise Fault(39)
     finally:
         os.close(opened)
 
 
 def read_whole(opened: int, path: str) -> bytes:
-    """All bytes of a descriptor, which is closed: 93 Unread where a read fails."""
+    """All bytes of a descriptor, which is closed. They are held once. Raises Fault: 93 Unread where a read fails, and
+    39 FileTooLong."""
+    held = BytesIO()
     try:
-        return b"".join(pieces(opened))
+        for piece in pieces(opened):
+            held.write(piece)
     except OSError as error:
         raise Fault(93, path=path) from error
+    except Fault as fault:
+        raise fault.with_path(path) from None
+    return held.getvalue()
 
 
 def read_source(path: str) -> bytes:
-    """All bytes of a file: 92 Absent where it can't be opened, 93 Unread where a read fails."""
+    """All bytes of a file, as `read_whole`: 92 Absent where it can't be opened."""
     try:
         opened = open_source(path)
     except (OSError, ValueError) as error:
@@ -98,7 +123,7 @@ def read_source(path: str) -> bytes:
 
 
 def read_member(folder: str, parts: Sequence[str]) -> bytes:
-    """All bytes of a file of a file-set: 92 Absent where it can't be opened, 93 Unread where a read fails."""
+    """All bytes of a file of a file-set, as `read_whole`: 92 Absent where it can't be opened."""
     path = os.path.join(folder, *parts)
     try:
         opened = open_below(folder, parts)

@@ -4,11 +4,11 @@ from array import array
 from typing import (TYPE_CHECKING, Any, Callable, Dict, Iterable, Iterator, List, NamedTuple, Optional, Sequence, Tuple,
                     Union)
 
-from . import _bytes
+from . import _bytes, _pydicom
 from ._bytes import Data
 from ._faults import FAULTS, Fault, tag_text
-from ._opening import parts_of, read_member, read_source
-from ._text import text_of
+from ._opening import parts_of, path_below, read_member, read_source
+from ._text import printable, text_of
 
 if TYPE_CHECKING:
     from ._building import Built
@@ -54,7 +54,7 @@ class Finding(NamedTuple):
 
     def __str__(self) -> str:
         name = self.record.raw("ReferencedFileID").decode("ascii", "replace")
-        said = str(self.record.offset) if self.kind == "BADID" else name
+        said = str(self.record.offset) if self.kind == "BADID" else printable(name)
         return " ".join(word for word in (self.kind, said, self.words) if word)
 
 
@@ -74,9 +74,10 @@ class Record:
         tag = tag_of(name)
         return self.fileset._column(tag)[self.row]
 
-    def get(self, keyword: str) -> Optional[str]:
-        """The text at a keyword, its own or from above, as the attribute of that name."""
-        return self.fileset._column(tag_of(keyword))[self.row]
+    def get(self, keyword: str, default: Any = None) -> Any:
+        """The text at a keyword, its own or from above, as the attribute of that name: `default` where none has it."""
+        value = self.fileset._column(tag_of(keyword))[self.row]
+        return default if value is None else value
 
     def __eq__(self, other: object) -> bool:
         return isinstance(other, Record) and other.fileset is self.fileset and other.row == self.row
@@ -138,36 +139,42 @@ class Record:
         return [one for one in self.children if one.in_use and one.record_type == kind]
 
     @property
-    def path(self) -> Optional[str]:
-        """The path of its file, as its File ID spells it; None where it has no File ID, or one that leads elsewhere."""
+    def file_id(self) -> Tuple[str, ...]:
+        """The parts of its File ID (0004,1500), as recorded: none where it has no File ID."""
         file_id = self.raw(_FILE)
-        parts = parts_of(file_id) if file_id else None
-        return os.path.join(self.fileset.path or "", "/".join(parts)) if parts else None
+        return tuple(file_id.decode("ascii", "replace").split("\\")) if file_id else ()
+
+    def _parts(self) -> Optional[List[str]]:
+        file_id = self.raw(_FILE)
+        return parts_of(file_id) if file_id else None
+
+    @property
+    def path(self) -> Optional[str]:
+        """The path of its file, under the names that a system shows, and as recorded where no such file is there; None
+        where it has no File ID, or one that leads elsewhere."""
+        parts = self._parts()
+        return None if parts is None else path_below(self.fileset.path, parts)
 
     def read(self) -> bytes:
         """The bytes of its file, also where a system shows it under another name.
 
-        Raises Fault: 92 Absent where it can't be opened, 93 Unread where a read fails.
+        Raises Fault: 92 Absent where it can't be opened, 93 Unread where a read fails, 39 FileTooLong.
         """
-        parts = parts_of(self.raw(_FILE)) if self.path else None
+        parts = self._parts()
         if parts is None:
-            raise Fault(92, path=self.path)
+            raise Fault(92)
         return read_member(self.fileset._folder(), parts)
 
     def load(self) -> Any:
         """Its file, as pydicom's Dataset."""
-        from io import BytesIO
-        from pydicom import dcmread
-        return dcmread(BytesIO(self.read()))
+        return _pydicom.file(self.read())
 
     def dataset(self) -> Any:
         """All its own elements, with sequences, as pydicom's Dataset."""
-        from io import BytesIO
-        from pydicom.filereader import read_sequence_item
-        return read_sequence_item(BytesIO(self.fileset.data[self.offset:]), False, True, "latin-1", 0)
+        return _pydicom.item(self.fileset.data, self.offset)
 
     def __repr__(self) -> str:
-        return f"<{self.record_type} at {self.offset}: {self.path or self.PatientID}>"
+        return printable(f"<{self.record_type} at {self.offset}: {self.path or self.PatientID}>")
 
 
 class FileSet:
@@ -278,6 +285,11 @@ class FileSet:
     def __iter__(self) -> Iterator[Record]:
         return (Record(self, row) for row in self._files)
 
+    def __repr__(self) -> str:
+        used = [one.record_type for one in self.records if one.in_use]
+        return printable(f"<FileSet {self.ID or 'without ID'}: {used.count('PATIENT')} patients, "
+                         f"{used.count('STUDY')} studies, {used.count('SERIES')} series, {len(self)} files>")
+
     def __contains__(self, record: object) -> bool:
         return isinstance(record, Record) and record.fileset is self and record.row in self._files
 
@@ -292,8 +304,7 @@ class FileSet:
                        for name, column, value in columns)]
 
     def _loaded(self, row: int, name: str) -> Optional[str]:
-        value = Record(self, row).load().get(name)
-        return None if value is None else str(value)
+        return _pydicom.text_in(Record(self, row).read(), name)
 
     def find_values(self, elements: Union[str, Sequence[str]], instances: Optional[Iterable[Record]] = None
                     ) -> Union[List[Optional[str]], Dict[str, List[Optional[str]]]]:
@@ -339,10 +350,14 @@ class FileSet:
                 yield as_known(row, given)
 
     @staticmethod
-    def build(paths: Iterable[Union[str, "os.PathLike[str]"]], set_id: str = "", uid: str = "") -> "Built":
-        """The file-set of these image files, as `dicomdir index` makes it. Nothing is written before `write`."""
+    def build(paths: Iterable[Union[str, "os.PathLike[str]"]], set_id: str = "", uid: str = "",
+              strict: bool = False) -> "Built":
+        """The file-set of these image files, as `dicomdir index` makes it. Nothing is written before `write`.
+
+        The result says what it leaves out. With `strict` it raises Fault where that is something: 98 Strict.
+        """
         from ._building import build
-        return build(paths, set_id, uid)
+        return build(paths, set_id, uid, strict)
 
     def withdraw(self, uids: Iterable[str], set_id: str = "", uid: str = "") -> "Built":
         """The file-set without the images of these SOP Instance UIDs, as `dicomdir withdraw` makes it. Nothing is
@@ -361,15 +376,15 @@ def _words(found: _bytes.Found) -> str:
 def read(source: Union[str, "os.PathLike[str]", Data]) -> FileSet:
     """The file-set of a folder, of a DICOMDIR, or of the bytes of one.
 
-    Raises Fault: 92 Absent where it can't be opened, 93 Unread where a read fails, and 51 to 58 where the offsets of
-    its records can't be followed.
+    Raises Fault: 92 Absent where it can't be opened, 93 Unread where a read fails, 39 FileTooLong, and 51 to 58 where
+    the offsets of its records can't be followed.
     """
     if isinstance(source, (bytes, bytearray, memoryview)):
         return FileSet(source)
     path = os.fspath(source)
     folder = path if os.path.isdir(path) else os.path.dirname(path)
-    data = read_member(path, ["DICOMDIR"]) if os.path.isdir(path) else read_source(path)
     try:
-        return FileSet(data, folder)
+        return FileSet(read_member(path, ["DICOMDIR"]) if os.path.isdir(path) else read_source(path), folder)
     except Fault as fault:
-        raise fault.with_path(path) from None
+        # As the program names it, but for a DICOMDIR that is not there.
+        raise (fault if fault.status in (92, 93) else fault.with_path(path)) from fault.__cause__

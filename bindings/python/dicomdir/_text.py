@@ -8,12 +8,17 @@ try:
 except ImportError:
     _pydicom = None  # type: ignore[assignment]
 
-# Where pydicom is not there, these are decoded; all others are read as Latin-1, with a warning.
+# Where pydicom does not decode, these are decoded; all others are read as Latin-1, with a warning.
 _CODECS: Dict[bytes, str] = {b"": "latin-1", b"ISO_IR 6": "latin-1", b"ISO_IR 100": "latin-1", b"ISO_IR 192": "utf-8",
                              b"GB18030": "gb18030", b"GBK": "gbk"}
 # After these ISO 2022 begins anew: between components and values, and at the ends of lines.
 _DELIMITERS = {0x5C, 0x5E, 0x3D, 0x0D, 0x0A, 0x09, 0x0C}
 _warned: Set[bytes] = set()
+
+
+def printable(text: str) -> str:
+    """The text with `?` for each character that a terminal may obey, or can't show."""
+    return "".join(letter if letter.isprintable() else "?" for letter in text)
 
 
 def text_of(value: bytes, charset: bytes) -> Optional[str]:
@@ -22,14 +27,19 @@ def text_of(value: bytes, charset: bytes) -> Optional[str]:
         return None
     if value.isascii() and b"\x1b" not in value:
         return value.decode("ascii")
-    if _pydicom is not None:
+    # Spaces around a code are padding (PS3.5 section 6.2).
+    charset = charset.strip(b" ")
+    name = charset.decode("latin-1")
+    # pydicom's warnings have the name as it is.
+    if _pydicom is not None and name.isprintable():
         return _by_pydicom(value, charset)
     if charset in _CODECS:
         return value.decode(_CODECS[charset], "replace")
     if charset not in _warned:
         _warned.add(charset)
-        warnings.warn(f"text in the character set {charset.decode('latin-1')} is read as Latin-1, as pydicom is not "
-                      "here; Record.raw gives its bytes", UnicodeWarning, stacklevel=4)
+        why = "pydicom is not here" if _pydicom is None else "no set has this name"
+        warnings.warn(f"text in the character set {printable(name)} is read as Latin-1, as {why}; Record.raw gives its "
+                      "bytes", UnicodeWarning, stacklevel=4)
     return value.decode("latin-1")
 
 
