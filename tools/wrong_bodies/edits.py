@@ -5,7 +5,7 @@ import re
 from dataclasses import dataclass
 from pathlib import Path
 
-from wrong_bodies.source import functions_of, item_at, users_of
+from wrong_bodies.source import functions_of, homes_of, item_at, users_of
 
 FOLDERS = ("must-fail", "wrong-bodies")
 NAME = re.compile(r"[A-Za-z0-9_-][A-Za-z0-9_.-]*\.edit")
@@ -98,6 +98,7 @@ def change_of(edit, folder, over=None):
     if edit.folder not in FOLDERS or not NAME.fullmatch(edit.path.name):
         raise BadEdit("its name is not of letters, digits, _, - and . with .edit at the end, or it stands in a folder")
     texts, functions, of_constant = dict(over or {}), [], False
+    homes = homes_of(sources_of(folder))
     for path, old, new in pairs_of(edit.text):
         text = texts.get(path) or source_of(folder, path)
         if text.count(old) != 1:
@@ -105,7 +106,7 @@ def change_of(edit, folder, over=None):
         if old == new:
             raise BadEdit("an 'old:' text is its 'new:' text")
         start, end = changed_range(text, old, new)
-        around = [it for it in functions_of(text, path) if it.start < start and end <= it.end]
+        around = [it for it in functions_of(text, path, homes) if it.start < start and end <= it.end]
         item = item_at(text, start)
         texts[path] = text.replace(old, new)
         if around:

@@ -15,6 +15,7 @@ ITEM = re.compile(
     r"^[ \t]*(?:pub(?:\([\w ]+\))? +)?(const|static|use)\s+(?!fn\b)(\w+)"
     r"(?:[^;\[]|\[(?:[^\[\]]|\[[^\]]*\])*\])*;", re.M)
 CYCLE = re.compile(r"#\[cycle\((\w+)\)\]")
+TYPE = re.compile(r"^(?:pub(?:\([\w ]+\))? +)?(?:struct|enum)\s+(\w+)", re.M)
 
 
 @dataclass(frozen=True)
@@ -88,12 +89,22 @@ def owners_of(code):
         yield it.end(), closing(code, it.end() - 1), names
 
 
-def functions_of(text, file):
-    """The functions with a body in the text of a file, whose path begins with src/."""
+def modules_of(file):
+    """The modules that a file is, whose path begins with src/."""
+    modules = re.sub(r"(/mod)?\.rt\Z", "", file.removeprefix("src/")).split("/")
+    return [it for it in modules if it not in ("lib", "main")]
+
+
+def homes_of(sources):
+    """The modules of each type by its name. The sources are by path."""
+    return {it[1]: modules_of(path) for path, text in sources.items() for it in TYPE.finditer(blanked(text))}
+
+
+def functions_of(text, file, homes=None):
+    """The functions with a body in the text of a file, whose path begins with src/. Rattle knows a method by the modules
+    of its type, which are its home."""
     code, found = blanked(text), []
     owners = list(owners_of(code))
-    modules = re.sub(r"(/mod)?\.rt\Z", "", file.removeprefix("src/")).split("/")
-    modules = [it for it in modules if it not in ("lib", "main")]
     for it in re.finditer(r"\bfn\s+(\w+)", code):
         body = body_of(code, it.end())
         if body:
@@ -101,7 +112,9 @@ def functions_of(text, file):
             for start, end, names in owners:
                 if start <= it.start() < end:
                     ways = [[*way, name] for name in names for way in ways]
-            paths = tuple("::".join([*modules, *way, it[1]]) for way in ways)
+            tops = [(modules_of(file), way) for way in ways]
+            tops += [(homes[way[0]], way) for way in ways if way and way[0] in (homes or {})]
+            paths = tuple(dict.fromkeys("::".join([*top, *way, it[1]]) for top, way in tops))
             cycle = CYCLE.search(code, max(code.rfind(sign, 0, it.start()) for sign in "{};") + 1, it.start())
             found.append(Function(*body, paths, cycle[1] if cycle else ""))
     return found
@@ -123,5 +136,6 @@ def users_of(sources, name):
         if more <= names:
             break
         names |= more
-    return [it for path, text in sorted(sources.items()) for it in functions_of(text, path)
+    homes = homes_of(sources)
+    return [it for path, text in sorted(sources.items()) for it in functions_of(text, path, homes)
             if named.search(codes[path], it.start, it.end)]
