@@ -1,4 +1,4 @@
-"""Has rt try edits, in a copy of the repository."""
+"""Has rt try edits, as the gate of a copy of the repository, where it takes what it has proved before."""
 
 import re
 import shutil
@@ -51,8 +51,8 @@ def try_by_rt(repository, kit, edits):
     crates = list(dict.fromkeys(it.crate for it in edits))
     with tempfile.TemporaryDirectory(prefix="wrong-bodies-rt-") as room:
         lay_out(repository, crates, Path(room))
-        ran = subprocess.run([kit.rt, kit.verb_of_edits(), *crates], cwd=room, stdin=subprocess.DEVNULL,
-                             capture_output=True, text=True, errors="replace", check=False)
+        ran = subprocess.run([kit.rt, "ci"], cwd=room, stdin=subprocess.DEVNULL, capture_output=True, text=True,
+                             errors="replace", check=False)
     found = verdicts(ran.stdout)
     last = f"status {ran.returncode}: " + " / ".join((ran.stdout + ran.stderr).strip().splitlines()[-3:])[:300]
     return {it: found.get(it.label, Verdict(NOT_TRIED, f"rt says nothing of it, {last}")) for it in edits}

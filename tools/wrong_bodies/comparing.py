@@ -16,9 +16,9 @@ def minutes_of(repository):
     return {words[0]: float(words[1]) for words in map(str.split, lines) if words and words[0] in repository.listed}
 
 
-def expected(minutes, edits):
-    """What rt takes for edits of a crate: it proves that once more, and checks it whole for each."""
-    return minutes + edits * (0.3 + minutes / 10)
+def expected(repository, minutes, name, edits):
+    """What rt takes for edits of a crate: it proves that once more, over those below, and checks it whole for each."""
+    return sum(minutes.get(it, 1) for it in repository.below(name)) + minutes[name] + edits * (0.3 + minutes[name] / 10)
 
 
 def chosen(repository, edits):
@@ -26,7 +26,8 @@ def chosen(repository, edits):
     minutes, counts = minutes_of(repository), {}
     for it in edits:
         counts[it.crate] = counts.get(it.crate, 0) + 1
-    crates = [it for it in sorted(counts) if it in minutes and expected(minutes[it], counts[it]) <= MOST]
+    crates = [it for it in sorted(counts)
+              if it in minutes and expected(repository, minutes, it, counts[it]) <= MOST]
     head = subprocess.run(["git", "rev-parse", "HEAD"], cwd=repository.top, capture_output=True, text=True, check=True)
     return crates[int(head.stdout, 16) % len(crates)] if crates else None
 

@@ -33,11 +33,6 @@ class Kit:
         said = subprocess.run([self.rattle, "check", "--help"], capture_output=True, text=True, check=False).stdout
         return all(it in said for it in FLAGS)
 
-    def verb_of_edits(self):
-        """By which command rt tries the edits of crates: 'rt ci NAME' takes what it has proved before, where it can."""
-        said = subprocess.run([self.rt, "help"], capture_output=True, text=True, check=False)
-        return "ci" if "rt ci NAME" in said.stdout + said.stderr else "must-fail"
-
     def digest(self):
         """A sum of the kit and of this script."""
         found = self.rattle.stat()
