@@ -30,6 +30,22 @@ fn signal(alloc: Global, beyond: u32) -> Result<(), Fail> {
     }
 }
 
+/// Makes a call with each of its allocations refused in turn, until none is refused. The call gets the number of the
+/// allocation to refuse, and answers whether one was.
+pub fn refuse_each<C: Fn(Global, u32) -> Result<bool, Fail>>(
+    alloc: Global,
+    is_refused: C,
+) -> Result<(), Fail>
+    requires { C.IsAlwaysCallable is_refused }
+{
+    for chosen in 1..=MOST_ALLOCATIONS {
+        if !is_refused(alloc, chosen)? {
+            return Ok(());
+        }
+    }
+    Err("the call has more allocations than are refused".into())
+}
+
 /// Has the n-th allocation from here on refused, counted from 1.
 pub fn refuse_allocation(alloc: Global, chosen: u32) -> Result<(), Fail> {
     signal(alloc, chosen)
