@@ -1,55 +1,21 @@
 //! Refuses each allocation of each call in turn: the call reports that, has changed nothing, and succeeds when made
 //! again.
 
-use crate::files::vectors::{file_named, meta_of, v1_with_private};
+use crate::files::vectors::{file_named, meta_of};
 use crate::files::{reading, streaming};
 use crate::sets::allocations::is_at_end;
 use crate::sets::spellings::PATIENT_ID;
 use dd_part10::{DicomFile, Scanned, StreamFault, parse_file, read_file, write_head};
 use dd_set::WriteFault;
 use dd_vectors::{
-    ByteSource, Sink, allocation_numbers, answered, question, refuse_allocation, require,
-    was_refused,
+    ByteSource, Sink, answered, question, refuse_allocation, refuse_each, require, was_refused,
 };
 use std::alloc::Global;
 use std::test::Fail;
 
-#[derive(Clone, Copy)]
-enum Call {
-    ParseFile,
-    ParseFileEncapsulated,
-    ReadFile,
-    ReadFileLongGroup,
-    WriteHead,
-}
-
-/// Says whether the chosen allocation of the call was refused.
-fn is_refused(alloc: Global, call: Call, chosen: u32) -> Result<bool, Fail> {
-    match call {
-        Call::ParseFile => parse_file_refused(alloc, FILE, chosen),
-        Call::ParseFileEncapsulated => parse_file_refused(alloc, ENCAPSULATED, chosen),
-        Call::ReadFile => read_file_refused(alloc, &file_named(alloc, "v1 encapsulated")?, chosen),
-        Call::ReadFileLongGroup => {
-            read_file_refused(alloc, &v1_with_private(alloc, "1026 864")?, chosen)
-        }
-        Call::WriteHead => write_head_refused(alloc, chosen),
-    }
-}
-
-fn refuse_each(alloc: Global, call: Call) -> Result<(), Fail> {
-    for chosen in allocation_numbers() {
-        if !is_refused(alloc, call, chosen)? {
-            return Ok(());
-        }
-    }
-    Err("the call has more allocations than are refused".into())
-}
-
-/// V1, and what is read of it.
-const FILE: &str = "\
-v1 > 454 276 1.2.840.10008.5.1.4.1.1.2 1.2.3.4.5 1.2.840.10008.1.2.1 12";
-
-const ENCAPSULATED: &str = "\
+/// Files, and what is read of them.
+const FILES: &str = "\
+v1 > 454 276 1.2.840.10008.5.1.4.1.1.2 1.2.3.4.5 1.2.840.10008.1.2.1 12
 v1 encapsulated > 496 278 1.2.840.10008.5.1.4.1.1.2 1.2.3.4.5 1.2.840.10008.1.2.4.90 13";
 
 fn require_file(alloc: Global, case: &str, size: usize, file: &DicomFile<'_>) -> Result<(), Fail> {
@@ -75,12 +41,13 @@ fn parse_file_refused(alloc: Global, case: &str, chosen: u32) -> Result<bool, Fa
 
 #[test]
 fn allocations_of_parse_file(rt: HostRuntime) -> Result<(), Fail> {
-    refuse_each(rt.alloc(), Call::ParseFile)
-}
-
-#[test]
-fn allocations_of_parse_file_with_fragments(rt: HostRuntime) -> Result<(), Fail> {
-    refuse_each(rt.alloc(), Call::ParseFileEncapsulated)
+    for case in FILES.split('\n') {
+        refuse_each(
+            rt.alloc(),
+            |alloc, chosen| parse_file_refused(alloc, case, chosen),
+        )?;
+    }
+    Ok(())
 }
 
 fn wants_memory(answer: &Result<Scanned, StreamFault>) -> bool {
@@ -88,15 +55,16 @@ fn wants_memory(answer: &Result<Scanned, StreamFault>) -> bool {
 }
 
 /// Reads the Patient ID of a file from a reader, which is at its end afterwards, also where an allocation was refused.
-fn read_file_refused(alloc: Global, bytes: &[u8], chosen: u32) -> Result<bool, Fail> {
-    let meta = meta_of(alloc, bytes)?;
-    let mut reader = ByteSource::new(bytes, 44, None);
+fn read_file_refused(alloc: Global, name: &str, chosen: u32) -> Result<bool, Fail> {
+    let bytes = file_named(alloc, name)?;
+    let meta = meta_of(alloc, &bytes)?;
+    let mut reader = ByteSource::new(&bytes, 44, None);
     refuse_allocation(alloc, chosen)?;
     let answer = read_file(alloc, &mut reader, &[PATIENT_ID], 4096);
     let refused = was_refused(alloc, wants_memory(&answer))?;
     require(is_at_end(&mut reader), "the reader is at its end")?;
     let answer = if refused {
-        let mut again = ByteSource::new(bytes, 44, None);
+        let mut again = ByteSource::new(&bytes, 44, None);
         read_file(alloc, &mut again, &[PATIENT_ID], 4096)
     } else {
         answer
@@ -110,12 +78,13 @@ fn read_file_refused(alloc: Global, bytes: &[u8], chosen: u32) -> Result<bool, F
 
 #[test]
 fn allocations_of_read_file(rt: HostRuntime) -> Result<(), Fail> {
-    refuse_each(rt.alloc(), Call::ReadFile)
-}
-
-#[test]
-fn allocations_of_read_file_with_a_long_group(rt: HostRuntime) -> Result<(), Fail> {
-    refuse_each(rt.alloc(), Call::ReadFileLongGroup)
+    for name in ["v1 encapsulated", "1026 864"] {
+        refuse_each(
+            rt.alloc(),
+            |alloc, chosen| read_file_refused(alloc, name, chosen),
+        )?;
+    }
+    Ok(())
 }
 
 /// Writes the head of V1, of 276 bytes, to a writer without room. A refused allocation is a write that fails: the
@@ -142,5 +111,5 @@ fn write_head_refused(alloc: Global, chosen: u32) -> Result<bool, Fail> {
 
 #[test]
 fn allocations_of_write_head(rt: HostRuntime) -> Result<(), Fail> {
-    refuse_each(rt.alloc(), Call::WriteHead)
+    refuse_each(rt.alloc(), write_head_refused)
 }

@@ -80,15 +80,6 @@ fn v1_has_its_elements(rt: HostRuntime) -> Result<(), Fail> {
     Ok(())
 }
 
-#[test]
-fn a_file_without_elements(rt: HostRuntime) -> Result<(), Fail> {
-    let bytes = v1(rt.alloc())?;
-    let front = bytes.get(..276).ok_or("fewer bytes")?;
-    let file = parse_file(rt.alloc(), front)?;
-    assert!(rt; file.set_at == 276 && file.set.elements.is_empty());
-    Ok(())
-}
-
 fn syntax(alloc: Global, question: &str) -> Result<String, Fail> {
     let meta = Meta {
         class: Uid::new(b"1.2.840.10008.5.1.4.1.1.2")?,

@@ -1,9 +1,8 @@
 //! Bytes that are no file, each with the first check that they fail.
 
-use crate::files::vectors::{v1_changed, v1_with_private};
+use crate::files::vectors::{file_named, v1_changed};
 use dd_part10::{FileFault, StreamFault, parse_file, read_file};
-use dd_set::SetFault;
-use dd_vectors::{ByteSource, ask_all, v1, v1_with};
+use dd_vectors::{ByteSource, ask_all, v1_with};
 use std::alloc::Global;
 use std::test::Fail;
 
@@ -27,9 +26,6 @@ const CUT_LONG: &str = "\
 1168 1024 862 > taken
 1169 1026 864 > 22 GroupLength
 1170 1026 864 > taken";
-
-/// Where V1 can be cut: after its group 0002, and after each element of its data set.
-const ENDS: &str = "276 310 328 344 358 368 384 394 408 424 434 444 454";
 
 /// V1 with other bytes from an offset on: in the preamble, in the prefix, in the header of the group length and in
 /// another header of group 0002.
@@ -77,59 +73,18 @@ fn answer(alloc: Global, bytes: &[u8]) -> Result<String, Fail> {
     }
 }
 
+/// Cuts V1, or V1 with private information of these lengths, to this many bytes.
 fn cut(alloc: Global, question: &str) -> Result<String, Fail> {
-    let bytes = v1(alloc)?;
-    let front = bytes
-        .get(..question.parse::<usize>()?)
-        .ok_or("fewer bytes")?;
-    answer(alloc, front)
-}
-
-#[test]
-fn a_file_cut_short(rt: HostRuntime) -> Result<(), Fail> {
-    ask_all(rt.alloc(), CUT, cut)
-}
-
-fn cut_long(alloc: Global, question: &str) -> Result<String, Fail> {
-    let (count, lengths) = question.split_once(' ').ok_or("no lengths")?;
-    let bytes = v1_with_private(alloc, lengths)?;
+    let (count, name) = question.split_once(' ').unwrap_or((question, "v1"));
+    let bytes = file_named(alloc, name)?;
     let front = bytes.get(..count.parse::<usize>()?).ok_or("fewer bytes")?;
     answer(alloc, front)
 }
 
 #[test]
-fn a_long_group_cut_short(rt: HostRuntime) -> Result<(), Fail> {
-    ask_all(rt.alloc(), CUT_LONG, cut_long)
-}
-
-fn fault_of_front(n: usize) -> Result<Option<FileFault>, Fail> {
-    if n < 132 {
-        return Ok(Some(FileFault::NotPart10));
-    }
-    if n < 276 {
-        return Ok(Some(FileFault::GroupLength));
-    }
-    for end in ENDS.split(' ') {
-        if n == end.parse::<usize>()? {
-            return Ok(None);
-        }
-    }
-    Ok(Some(FileFault::Set(SetFault::Truncated)))
-}
-
-#[test]
-fn a_file_cut_anywhere(rt: HostRuntime) -> Result<(), Fail> {
-    let bytes = v1(rt.alloc())?;
-    for n in 0..bytes.len() {
-        let front = bytes.get(..n).ok_or("fewer bytes")?;
-        let fault = fault_of_front(n)?;
-        assert!(rt;
-            parse_file(rt.alloc(), front).err() == fault,
-            "of {n} bytes"
-        );
-        assert!(rt; is_refused_alike(rt.alloc(), front, fault), "of {n} bytes");
-    }
-    Ok(())
+fn a_file_cut_short(rt: HostRuntime) -> Result<(), Fail> {
+    ask_all(rt.alloc(), CUT, cut)?;
+    ask_all(rt.alloc(), CUT_LONG, cut)
 }
 
 fn changed(alloc: Global, question: &str) -> Result<String, Fail> {
@@ -138,26 +93,13 @@ fn changed(alloc: Global, question: &str) -> Result<String, Fail> {
     answer(alloc, &bytes)
 }
 
-#[test]
-fn a_file_with_changed_bytes(rt: HostRuntime) -> Result<(), Fail> {
-    ask_all(rt.alloc(), CHANGED, changed)
-}
-
 fn other(alloc: Global, question: &str) -> Result<String, Fail> {
     let bytes = v1_with(alloc, question)?;
     answer(alloc, &bytes)
 }
 
 #[test]
-fn a_file_with_other_elements(rt: HostRuntime) -> Result<(), Fail> {
+fn a_file_with_other_bytes_or_elements(rt: HostRuntime) -> Result<(), Fail> {
+    ask_all(rt.alloc(), CHANGED, changed)?;
     ask_all(rt.alloc(), OTHER, other)
-}
-
-#[test]
-fn want_of_memory_in_words(rt: HostRuntime) -> Result<(), Fail> {
-    let meta = FileFault::Meta(SetFault::Memory);
-    let set = FileFault::Set(SetFault::Memory);
-    let text = format!(in rt.alloc(); "{meta}, {set}")?;
-    assert_eq!(rt; text.as_str(), "26 Meta 91 Memory, 27 Set 91 Memory");
-    Ok(())
 }

@@ -1,4 +1,4 @@
-use crate::files::vectors::{file_named, meta_of, v1_changed, v1_with_private};
+use crate::files::vectors::{file_named, meta_of, v1_changed};
 use dd_elem::Tag;
 use dd_part10::{Meta, Scanned, StreamFault, parse_file, read_file};
 use dd_scan::{Found, FoundValue};
@@ -83,14 +83,10 @@ pub(crate) fn in_words(
     Ok(text)
 }
 
-fn file_of(alloc: Global, question: &str) -> Result<(Vec<u8>, &str), Fail> {
+fn read(alloc: Global, question: &str) -> Result<String, Fail> {
     let (place, rest) = question.split_once(' ').ok_or("no place")?;
     let (change, rest) = rest.split_once(' ').ok_or("no bytes")?;
-    Ok((v1_changed(alloc, place, change)?, rest))
-}
-
-fn read(alloc: Global, question: &str) -> Result<String, Fail> {
-    let (file, rest) = file_of(alloc, question)?;
+    let file = v1_changed(alloc, place, change)?;
     let (mut reader, limit, words) = reader_of(&file, rest)?;
     let wanted = tags_of(alloc, words)?;
     let answer = read_file(alloc, &mut reader, &wanted, limit);
@@ -102,10 +98,10 @@ fn one_file_read_in_many_ways(rt: HostRuntime) -> Result<(), Fail> {
     ask_all(rt.alloc(), READS, read)
 }
 
-fn read_whole(alloc: Global, piece: u64, question: &str) -> Result<String, Fail> {
+fn read_whole(alloc: Global, question: &str) -> Result<String, Fail> {
     let bytes = file_named(alloc, question)?;
     let parsed = meta_of(alloc, &bytes)?;
-    let mut reader = ByteSource::new(&bytes, piece, None);
+    let mut reader = ByteSource::new(&bytes, 7, None);
     let wanted: [Tag; 4] = [
         tag_of("0010,0020")?,
         tag_of("0008,1140")?,
@@ -116,22 +112,10 @@ fn read_whole(alloc: Global, piece: u64, question: &str) -> Result<String, Fail>
     in_words(alloc, answer, &parsed)
 }
 
-#[test]
-fn files_read_for_some_elements(rt: HostRuntime) -> Result<(), Fail> {
-    for piece in [1, 7, 4096] {
-        ask_all(
-            rt.alloc(),
-            FILES,
-            |alloc, question| read_whole(alloc, piece, question),
-        )?;
-    }
-    Ok(())
-}
-
-fn read_long(alloc: Global, piece: u64, question: &str) -> Result<String, Fail> {
-    let bytes = v1_with_private(alloc, question)?;
+fn read_long(alloc: Global, question: &str) -> Result<String, Fail> {
+    let bytes = file_named(alloc, question)?;
     let file = parse_file(alloc, &bytes)?;
-    let mut reader = ByteSource::new(&bytes, piece, None);
+    let mut reader = ByteSource::new(&bytes, 44, None);
     let answer = read_file(alloc, &mut reader, &[tag_of("0010,0020")?], 65_858);
     let told = in_words(alloc, answer, &file.meta)?;
     let (size, place) = (bytes.len(), file.set_at);
@@ -139,13 +123,7 @@ fn read_long(alloc: Global, piece: u64, question: &str) -> Result<String, Fail> 
 }
 
 #[test]
-fn a_long_group_read_as_parsed(rt: HostRuntime) -> Result<(), Fail> {
-    for piece in [44, 4096] {
-        ask_all(
-            rt.alloc(),
-            LONG_GROUPS,
-            |alloc, question| read_long(alloc, piece, question),
-        )?;
-    }
-    Ok(())
+fn files_read_for_some_elements(rt: HostRuntime) -> Result<(), Fail> {
+    ask_all(rt.alloc(), FILES, read_whole)?;
+    ask_all(rt.alloc(), LONG_GROUPS, read_long)
 }

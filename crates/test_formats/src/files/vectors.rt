@@ -1,11 +1,11 @@
 use dd_part10::{Meta, parse_file};
 use dd_vectors::{
-    SOURCE_ROWS, bytes_of, first_directory, push_bytes, put_at, tag_of, v1, v1_encapsulated,
-    v1_implicit, v2,
+    bytes_of, first_directory, push_bytes, put_at, v1, v1_encapsulated, v1_implicit, v2,
 };
 use std::alloc::Global;
 use std::test::Fail;
 
+/// Makes the file with this name, or V1 with private information of these lengths.
 pub(crate) fn file_named(alloc: Global, name: &str) -> Result<Vec<u8>, Fail> {
     match name {
         "v1" => v1(alloc),
@@ -13,7 +13,7 @@ pub(crate) fn file_named(alloc: Global, name: &str) -> Result<Vec<u8>, Fail> {
         "v1 encapsulated" => v1_encapsulated(alloc),
         "v2" => v2(alloc),
         "first directory" => first_directory(alloc),
-        _ => Err("no file of this name".into()),
+        lengths => v1_with_private(alloc, lengths),
     }
 }
 
@@ -26,7 +26,7 @@ pub(crate) fn v1_changed(alloc: Global, place: &str, change: &str) -> Result<Vec
 
 /// Makes V1 with private information after the other elements of group 0002: its creator (0002,0100), and bytes
 /// (0002,0102). The words are the length of the group and of these bytes.
-pub(crate) fn v1_with_private(alloc: Global, lengths: &str) -> Result<Vec<u8>, Fail> {
+fn v1_with_private(alloc: Global, lengths: &str) -> Result<Vec<u8>, Fail> {
     let (group, private) = lengths.split_once(' ').ok_or("no private information")?;
     let (group, private) = (group.parse::<u32>()?, private.parse::<u32>()?);
     let usual = v1(alloc)?;
@@ -49,33 +49,4 @@ pub(crate) fn v1_with_private(alloc: Global, lengths: &str) -> Result<Vec<u8>, F
 pub(crate) fn meta_of(alloc: Global, bytes: &[u8]) -> Result<Meta, Fail> {
     let file = parse_file(alloc, bytes)?;
     Ok(file.meta)
-}
-
-fn is_in_place(bytes: &[u8], row: &str) -> Result<bool, Fail> {
-    let mut words = row.split(' ');
-    let place: usize = words.next().ok_or("no place")?.parse()?;
-    let tag = tag_of(words.next().ok_or("no tag")?)?;
-    let [low, high] = tag.group.to_le_bytes();
-    let [lower, upper] = tag.element.to_le_bytes();
-    let rest = bytes.get(place..).ok_or("fewer bytes")?;
-    Ok(rest.starts_with(&[low, high, lower, upper]))
-}
-
-fn are_in_place(bytes: &[u8], rows: &str) -> Result<bool, Fail> {
-    for row in rows.split('\n') {
-        if !is_in_place(bytes, row)? {
-            return Ok(false);
-        }
-    }
-    Ok(true)
-}
-
-#[test]
-fn v1_has_454_bytes(rt: HostRuntime) -> Result<(), Fail> {
-    let bytes = v1(rt.alloc())?;
-    assert_eq!(rt; bytes.len(), 454);
-    for rows in SOURCE_ROWS {
-        assert!(rt; are_in_place(&bytes, rows)?);
-    }
-    Ok(())
 }

@@ -2,55 +2,15 @@
 
 use crate::sets::outlines::outline;
 use crate::sets::scanning::in_words;
-use crate::sets::spellings::{IMAGES, PATIENT_ID, PIXEL_DATA, nested, set_of, spelled};
-use dd_elem::{Read, Tag, Vr};
+use crate::sets::spellings::{IMAGES, PATIENT_ID, PIXEL_DATA, set_of, spelled};
+use dd_elem::{Read, Tag};
 use dd_scan::{Scan, ScanFault, scan, take_set};
-use dd_set::{DataSet, SetFault, Stream, Syntax, WriteFault, send, send_header, write_set};
+use dd_set::{DataSet, SetFault, Stream, Syntax, write_set};
 use dd_vectors::{
-    ByteSource, Sink, allocation_numbers, answered, question, refuse_allocation, require,
-    was_refused,
+    ByteSource, Sink, answered, question, refuse_allocation, refuse_each, require, was_refused,
 };
 use std::alloc::Global;
 use std::test::Fail;
-
-#[derive(Clone, Copy)]
-enum Call {
-    ItemStarts,
-    Parse,
-    ParseFragments,
-    ParseNested,
-    Scan,
-    ScanFragments,
-    Send,
-    SendHeader,
-    TakeSet,
-    WriteSet,
-}
-
-/// Makes the call with the chosen allocation refused, and answers whether one was.
-fn is_refused(alloc: Global, call: Call, chosen: u32) -> Result<bool, Fail> {
-    match call {
-        Call::ItemStarts => item_starts_refused(alloc, chosen),
-        Call::Parse => parse_refused(alloc, ITEMS, chosen),
-        Call::ParseFragments => parse_refused(alloc, FRAGMENTS, chosen),
-        Call::ParseNested => parse_nested_refused(alloc, chosen),
-        Call::Scan => scan_refused(alloc, SCANNED, chosen),
-        Call::ScanFragments => scan_refused(alloc, SCANNED_FRAGMENTS, chosen),
-        Call::Send => send_refused(alloc, chosen),
-        Call::SendHeader => send_header_refused(alloc, chosen),
-        Call::TakeSet => take_set_refused(alloc, chosen),
-        Call::WriteSet => write_set_refused(alloc, chosen),
-    }
-}
-
-fn refuse_each(alloc: Global, call: Call) -> Result<(), Fail> {
-    for chosen in allocation_numbers() {
-        if !is_refused(alloc, call, chosen)? {
-            return Ok(());
-        }
-    }
-    Err("the call has more allocations than are refused".into())
-}
 
 const ITEMS: &str = "\
 explicit 08004011 5351 0000 12000000 feff00e0 0a000000 10002000 4c4f 0200 5031 > \
@@ -89,36 +49,13 @@ fn parse_refused(alloc: Global, case: &str, chosen: u32) -> Result<bool, Fail> {
 
 #[test]
 fn allocations_of_parse(rt: HostRuntime) -> Result<(), Fail> {
-    refuse_each(rt.alloc(), Call::Parse)
-}
-
-#[test]
-fn allocations_of_parse_of_fragments(rt: HostRuntime) -> Result<(), Fail> {
-    refuse_each(rt.alloc(), Call::ParseFragments)
-}
-
-fn require_size(set: &DataSet<'_>, bytes: &[u8]) -> Result<(), Fail> {
-    require(
-        set.size(Syntax::Explicit) == Some(bytes.len() as u64),
-        "the set has the size of its bytes",
-    )
-}
-
-fn parse_nested_refused(alloc: Global, chosen: u32) -> Result<bool, Fail> {
-    let bytes = nested(alloc, 32, &[])?;
-    refuse_allocation(alloc, chosen)?;
-    let answer = set_of(alloc, Syntax::Explicit, &bytes);
-    let refused = was_refused(alloc, matches!(&answer, Err(SetFault::Memory)))?;
-    match &answer {
-        Ok(set) => require_size(set, &bytes)?,
-        Err(_) => require_size(&set_of(alloc, Syntax::Explicit, &bytes)?, &bytes)?,
+    for case in [ITEMS, FRAGMENTS] {
+        refuse_each(
+            rt.alloc(),
+            |alloc, chosen| parse_refused(alloc, case, chosen),
+        )?;
     }
-    Ok(refused)
-}
-
-#[test]
-fn allocations_of_parse_of_nested_items(rt: HostRuntime) -> Result<(), Fail> {
-    refuse_each(rt.alloc(), Call::ParseNested)
+    Ok(())
 }
 
 fn item_starts_refused(alloc: Global, chosen: u32) -> Result<bool, Fail> {
@@ -143,7 +80,7 @@ fn item_starts_refused(alloc: Global, chosen: u32) -> Result<bool, Fail> {
 
 #[test]
 fn allocations_of_item_starts(rt: HostRuntime) -> Result<(), Fail> {
-    refuse_each(rt.alloc(), Call::ItemStarts)
+    refuse_each(rt.alloc(), item_starts_refused)
 }
 
 const WANTED: [Tag; 3] = [PATIENT_ID, IMAGES, PIXEL_DATA];
@@ -181,12 +118,13 @@ fn scan_refused(alloc: Global, case: &str, chosen: u32) -> Result<bool, Fail> {
 
 #[test]
 fn allocations_of_scan(rt: HostRuntime) -> Result<(), Fail> {
-    refuse_each(rt.alloc(), Call::Scan)
-}
-
-#[test]
-fn allocations_of_scan_before_fragments(rt: HostRuntime) -> Result<(), Fail> {
-    refuse_each(rt.alloc(), Call::ScanFragments)
+    for case in [SCANNED, SCANNED_FRAGMENTS] {
+        refuse_each(
+            rt.alloc(),
+            |alloc, chosen| scan_refused(alloc, case, chosen),
+        )?;
+    }
+    Ok(())
 }
 
 fn taken(alloc: Global, syntax: Syntax, bytes: &[u8]) -> Result<Scan, SetFault> {
@@ -209,7 +147,7 @@ fn take_set_refused(alloc: Global, chosen: u32) -> Result<bool, Fail> {
 
 #[test]
 fn allocations_of_take_set(rt: HostRuntime) -> Result<(), Fail> {
-    refuse_each(rt.alloc(), Call::TakeSet)
+    refuse_each(rt.alloc(), take_set_refused)
 }
 
 /// A refused allocation is a write that fails: the writer holds a front of the set then, and what is written again
@@ -234,48 +172,5 @@ fn write_set_refused(alloc: Global, chosen: u32) -> Result<bool, Fail> {
 
 #[test]
 fn allocations_of_write_set(rt: HostRuntime) -> Result<(), Fail> {
-    refuse_each(rt.alloc(), Call::WriteSet)
-}
-
-/// Where its allocation is refused, the writer holds nothing of the piece.
-fn send_refused(alloc: Global, chosen: u32) -> Result<bool, Fail> {
-    let mut sink = Sink::new(alloc, None);
-    refuse_allocation(alloc, chosen)?;
-    let answer = send(b"P1", &mut sink, 100);
-    let refused = was_refused(alloc, answer == Err(WriteFault::Write(100)))?;
-    if refused {
-        require(sink.bytes().is_empty(), "the writer holds nothing")?;
-        require(send(b"P1", &mut sink, 100) == Ok(102), "the piece is sent")?;
-    }
-    require(
-        sink.bytes() == b"P1".as_slice(),
-        "the writer holds the piece",
-    )?;
-    Ok(refused)
-}
-
-#[test]
-fn allocations_of_send(rt: HostRuntime) -> Result<(), Fail> {
-    refuse_each(rt.alloc(), Call::Send)
-}
-
-const HEADER: &[u8] = b"\x10\0\x20\0LO\x02\0";
-
-fn send_header_refused(alloc: Global, chosen: u32) -> Result<bool, Fail> {
-    let mut sink = Sink::new(alloc, None);
-    refuse_allocation(alloc, chosen)?;
-    let answer = send_header(PATIENT_ID, Vr::LO, 2, &mut sink, 100);
-    let refused = was_refused(alloc, answer == Err(WriteFault::Write(100)))?;
-    if refused {
-        require(sink.bytes().is_empty(), "the writer holds nothing")?;
-        let again = send_header(PATIENT_ID, Vr::LO, 2, &mut sink, 100);
-        require(again == Ok(108), "the header is sent")?;
-    }
-    require(sink.bytes() == HEADER, "the writer holds the header")?;
-    Ok(refused)
-}
-
-#[test]
-fn allocations_of_send_header(rt: HostRuntime) -> Result<(), Fail> {
-    refuse_each(rt.alloc(), Call::SendHeader)
+    refuse_each(rt.alloc(), write_set_refused)
 }

@@ -12,7 +12,7 @@ pub(crate) fn outline(alloc: Global, set: &DataSet<'_>) -> Result<String, Fail> 
     for element in &set.elements {
         push_head(alloc, &mut text, element)?;
         match &element.value {
-            Value::Bytes(bytes) => push_value(alloc, &mut text, bytes)?,
+            Value::Bytes(bytes) => text.push_str(text_of(alloc, bytes)?.as_str())?,
             Value::Items { length, items } => {
                 text.push_str(format!(in alloc; "{length:?}")?.as_str())?;
                 push_items(alloc, &mut text, items)?;
@@ -32,11 +32,6 @@ fn push_head(alloc: Global, text: &mut String, element: &Element<'_>) -> Result<
         Some(vr) => text.push_str(format!(in alloc; "{tag} {vr:?} ")?.as_str())?,
         None => text.push_str(format!(in alloc; "{tag} - ")?.as_str())?,
     }
-    Ok(())
-}
-
-fn push_value(alloc: Global, text: &mut String, bytes: &[u8]) -> Result<(), Fail> {
-    text.push_str(text_of(alloc, bytes)?.as_str())?;
     Ok(())
 }
 
@@ -63,7 +58,7 @@ fn push_plain(alloc: Global, text: &mut String, set: &DataSet<'_>) -> Result<(),
     for element in &set.elements {
         push_head(alloc, text, element)?;
         match &element.value {
-            Value::Bytes(bytes) => push_value(alloc, text, bytes)?,
+            Value::Bytes(bytes) => text.push_str(text_of(alloc, bytes)?.as_str())?,
             Value::Items { .. } => return Err("items within items".into()),
             Value::Fragments(fragments) => push_fragments(alloc, text, fragments)?,
         }

@@ -119,18 +119,14 @@ fn last_starts(alloc: Global, syntax: Syntax, set: &DataSet<'_>) -> Result<Optio
     }
 }
 
-fn numbers(alloc: Global, syntax: Syntax, set: &DataSet<'_>) -> Result<String, Fail> {
-    let explicit = set.size(Syntax::Explicit);
-    let implicit = set.size(Syntax::Implicit);
-    let encapsulated = set.size(Syntax::Encapsulated);
-    let starts = last_starts(alloc, syntax, set)?;
-    Ok(format!(in alloc; "{explicit:?} {implicit:?} {encapsulated:?}, {starts:?}")?)
-}
-
 fn measured(alloc: Global, question: &str) -> Result<String, Fail> {
     let (syntax, bytes) = spelled(alloc, question)?;
     let set = set_of(alloc, syntax, &bytes)?;
-    numbers(alloc, syntax, &set)
+    let explicit = set.size(Syntax::Explicit);
+    let implicit = set.size(Syntax::Implicit);
+    let encapsulated = set.size(Syntax::Encapsulated);
+    let starts = last_starts(alloc, syntax, &set)?;
+    Ok(format!(in alloc; "{explicit:?} {implicit:?} {encapsulated:?}, {starts:?}")?)
 }
 
 #[test]

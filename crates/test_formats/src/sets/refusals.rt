@@ -139,11 +139,6 @@ fn cut(alloc: Global, question: &str) -> Result<String, Fail> {
     Ok(format!(in alloc; "{size} {count}")?)
 }
 
-#[test]
-fn fragments_cut_anywhere(rt: HostRuntime) -> Result<(), Fail> {
-    ask_all(rt.alloc(), CUT, cut)
-}
-
 /// How deep sequences are nested, and what the innermost item holds; how many bytes spell them, and what becomes of
 /// them. Fragments are at no level of their own.
 const DEEP: &str = "\
@@ -162,13 +157,7 @@ fn deep(alloc: Global, question: &str) -> Result<String, Fail> {
 }
 
 #[test]
-fn items_nest_32_levels_deep(rt: HostRuntime) -> Result<(), Fail> {
+fn fragments_cut_anywhere_and_items_32_levels_deep(rt: HostRuntime) -> Result<(), Fail> {
+    ask_all(rt.alloc(), CUT, cut)?;
     ask_all(rt.alloc(), DEEP, deep)
-}
-
-#[test]
-fn want_of_memory_in_words(rt: HostRuntime) -> Result<(), Fail> {
-    let fault = SetFault::Memory;
-    assert_eq!(rt; format!(in rt.alloc(); "{fault}")?.as_str(), "91 Memory");
-    Ok(())
 }

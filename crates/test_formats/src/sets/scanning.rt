@@ -1,7 +1,7 @@
 use crate::sets::spellings::{IMAGES, PATIENT_ID, PIXEL_DATA, spelled};
 use dd_elem::Tag;
 use dd_scan::{FoundValue, Scan, ScanFault, scan};
-use dd_set::{SetFault, Syntax};
+use dd_set::Syntax;
 use dd_vectors::{ByteSource, ask_all, bytes_of, reader_of, tags_of, text_of, v1};
 use std::alloc::Global;
 use std::test::Fail;
@@ -34,9 +34,6 @@ const FAULTY: &str = "\
 1 19 - 0010,0020 > 15 TooLong
 7 11 - 0010,0020 > 15 TooLong
 4096 19 20 0010,0020 > 15 TooLong";
-
-/// Where the elements of the data set of V1 end.
-const ENDS: &str = "0 34 52 68 82 92 108 118 132 148 158 168 178";
 
 /// The numbers of `A`, of spaces and of `B` in a Patient ID, in this order. Then what a scan says: how many bytes are
 /// kept and end in which one, and how many there are without the padding.
@@ -125,14 +122,9 @@ fn scanned_v1(alloc: Global, question: &str) -> Result<String, Fail> {
     scanned(alloc, file.get(276..).ok_or("no data set")?, question)
 }
 
-#[test]
-fn scans_of_one_set(rt: HostRuntime) -> Result<(), Fail> {
-    ask_all(rt.alloc(), SCANS, scanned_v1)
-}
-
-fn scanned_set(alloc: Global, piece: u64, question: &str) -> Result<String, Fail> {
+fn scanned_set(alloc: Global, question: &str) -> Result<String, Fail> {
     let (syntax, bytes) = spelled(alloc, question)?;
-    let mut reader = ByteSource::new(&bytes, piece, None);
+    let mut reader = ByteSource::new(&bytes, 7, None);
     let wanted: [Tag; 3] = [PATIENT_ID, IMAGES, PIXEL_DATA];
     let answer = scan(alloc, syntax, &mut reader, &wanted, 4096);
     in_words(alloc, answer)
@@ -140,26 +132,8 @@ fn scanned_set(alloc: Global, piece: u64, question: &str) -> Result<String, Fail
 
 #[test]
 fn scans_of_many_sets(rt: HostRuntime) -> Result<(), Fail> {
-    for piece in [1, 7, 4096] {
-        ask_all(
-            rt.alloc(),
-            SETS,
-            |alloc, question| scanned_set(alloc, piece, question),
-        )?;
-    }
-    Ok(())
-}
-
-#[test]
-fn scans_of_fragments(rt: HostRuntime) -> Result<(), Fail> {
-    for piece in [1, 7, 4096] {
-        ask_all(
-            rt.alloc(),
-            FRAGMENTS,
-            |alloc, question| scanned_set(alloc, piece, question),
-        )?;
-    }
-    Ok(())
+    ask_all(rt.alloc(), SETS, scanned_set)?;
+    ask_all(rt.alloc(), FRAGMENTS, scanned_set)
 }
 
 fn scanned_faulty(alloc: Global, question: &str) -> Result<String, Fail> {
@@ -168,38 +142,9 @@ fn scanned_faulty(alloc: Global, question: &str) -> Result<String, Fail> {
 }
 
 #[test]
-fn scans_of_a_set_with_a_fault(rt: HostRuntime) -> Result<(), Fail> {
+fn scans_of_one_set_and_of_one_with_a_fault(rt: HostRuntime) -> Result<(), Fail> {
+    ask_all(rt.alloc(), SCANS, scanned_v1)?;
     ask_all(rt.alloc(), FAULTY, scanned_faulty)
-}
-
-fn is_end(place: usize) -> Result<bool, Fail> {
-    for word in ENDS.split(' ') {
-        if place == word.parse::<usize>()? {
-            return Ok(true);
-        }
-    }
-    Ok(false)
-}
-
-/// False where the set is refused as cut short.
-fn is_taken(alloc: Global, set: &[u8]) -> Result<bool, Fail> {
-    let mut reader = ByteSource::new(set, 7, None);
-    match scan(alloc, Syntax::Explicit, &mut reader, &[PATIENT_ID], 178) {
-        Ok(_) => Ok(true),
-        Err(ScanFault::Set(SetFault::Truncated)) => Ok(false),
-        Err(_) => Err("another fault".into()),
-    }
-}
-
-#[test]
-fn a_set_cut_anywhere(rt: HostRuntime) -> Result<(), Fail> {
-    let file = v1(rt.alloc())?;
-    let set = file.get(276..).ok_or("no data set")?;
-    for n in 0..set.len() {
-        let front = set.get(..n).ok_or("fewer bytes")?;
-        assert_eq!(rt; is_taken(rt.alloc(), front)?, is_end(n)?);
-    }
-    Ok(())
 }
 
 /// The line has the numbers of `A`, of spaces and of `B` in a Patient ID.
@@ -217,8 +162,9 @@ fn padded_within(alloc: Global, line: &str) -> Result<Vec<u8>, Fail> {
 }
 
 /// Gives how many bytes are kept, the last of them, and the length without the padding.
-fn lengths(alloc: Global, set: &[u8]) -> Result<String, Fail> {
-    let mut reader = ByteSource::new(set, 100, None);
+fn long(alloc: Global, question: &str) -> Result<String, Fail> {
+    let set = padded_within(alloc, question)?;
+    let mut reader = ByteSource::new(&set, 100, None);
     let scan = scan(alloc, Syntax::Explicit, &mut reader, &[PATIENT_ID], 1 << 20)?;
     let Some(FoundValue::Bytes { front, length }) = scan.found.first().map(|found| &found.value)
     else {
@@ -231,11 +177,6 @@ fn lengths(alloc: Global, set: &[u8]) -> Result<String, Fail> {
     };
     let kept = front.len();
     Ok(format!(in alloc; "{kept} {last} {length}")?)
-}
-
-fn long(alloc: Global, question: &str) -> Result<String, Fail> {
-    let set = padded_within(alloc, question)?;
-    lengths(alloc, &set)
 }
 
 #[test]

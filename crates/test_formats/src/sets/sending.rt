@@ -110,18 +110,6 @@ fn sent_again(alloc: Global, syntax: Syntax, bytes: &[u8], mut sink: Sink) -> Re
     Ok(format!(in alloc; "{answer} [{held}]")?)
 }
 
-fn sent(alloc: Global, question: &str) -> Result<String, Fail> {
-    let (syntax, bytes) = spelled(alloc, question)?;
-    let sink = Sink::new(alloc, None);
-    sent_again(alloc, syntax, &bytes, sink)
-}
-
-#[test]
-fn sets_give_their_bytes_back(rt: HostRuntime) -> Result<(), Fail> {
-    ask_all(rt.alloc(), SENT, sent)?;
-    ask_all(rt.alloc(), FRAGMENTS, sent)
-}
-
 fn named(alloc: Global, line: &str) -> Result<(Syntax, Vec<u8>), Fail> {
     if line == "nested" {
         return Ok((Syntax::Explicit, nested(alloc, 32, &[])?));
@@ -129,16 +117,23 @@ fn named(alloc: Global, line: &str) -> Result<(Syntax, Vec<u8>), Fail> {
     spelled(alloc, line)
 }
 
-fn cut(alloc: Global, question: &str) -> Result<String, Fail> {
-    let (fails, line) = question.split_once(' ').ok_or("no set")?;
+/// Sends the set of this line to a writer that fails after the number of bytes before it, or never.
+fn sent(alloc: Global, question: &str) -> Result<String, Fail> {
+    let (word, rest) = question.split_once(' ').ok_or("no set")?;
+    let (fails, line) = match word.parse() {
+        Ok(fails) => (Some(fails), rest),
+        Err(_) => (None, question),
+    };
     let (syntax, bytes) = named(alloc, line)?;
-    let sink = Sink::new(alloc, Some(fails.parse()?));
+    let sink = Sink::new(alloc, fails);
     sent_again(alloc, syntax, &bytes, sink)
 }
 
 #[test]
-fn a_writer_that_fails_keeps_what_it_took(rt: HostRuntime) -> Result<(), Fail> {
-    ask_all(rt.alloc(), FAILING, cut)
+fn sets_give_their_bytes_back(rt: HostRuntime) -> Result<(), Fail> {
+    ask_all(rt.alloc(), SENT, sent)?;
+    ask_all(rt.alloc(), FRAGMENTS, sent)?;
+    ask_all(rt.alloc(), FAILING, sent)
 }
 
 fn only<'a>(
@@ -211,11 +206,6 @@ fn header(alloc: Global, question: &str) -> Result<String, Fail> {
     told_with(alloc, answer, &sink)
 }
 
-#[test]
-fn headers_are_sent_where_the_length_has_room(rt: HostRuntime) -> Result<(), Fail> {
-    ask_all(rt.alloc(), HEADERS, header)
-}
-
 fn piece(alloc: Global, question: &str) -> Result<String, Fail> {
     let bytes = bytes_of(alloc, "10002000 4c4f 0200 5031")?;
     let mut sink = Sink::new(alloc, Some(question.parse()?));
@@ -225,6 +215,7 @@ fn piece(alloc: Global, question: &str) -> Result<String, Fail> {
 }
 
 #[test]
-fn a_piece_is_sent_behind_others(rt: HostRuntime) -> Result<(), Fail> {
+fn headers_and_pieces_are_sent_behind_others(rt: HostRuntime) -> Result<(), Fail> {
+    ask_all(rt.alloc(), HEADERS, header)?;
     ask_all(rt.alloc(), PIECES, piece)
 }

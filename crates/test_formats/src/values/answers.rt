@@ -3,27 +3,10 @@
 //! which no answer of a parser shows.
 
 use dd_elem::Read;
-use dd_vectors::{answered, ask_all, claim_all, question, reader_of};
+use dd_vectors::{ask_all, claim_all, reader_of};
 use std::alloc::Global;
 use std::process::{ExitCode, Termination};
 use std::test::Fail;
-
-#[test]
-fn the_question_of_a_case(rt: HostRuntime) -> Result<(), Fail> {
-    assert_eq!(rt; question("2 + 2 > 5"), "2 + 2");
-    assert_eq!(rt; question("2 + 2"), "2 + 2");
-    Ok(())
-}
-
-#[test]
-fn an_answer_takes_the_place_of_that_of_the_case(rt: HostRuntime) -> Result<(), Fail> {
-    assert_eq!(rt;
-        answered(rt.alloc(), "2 + 2 > 5", &4)?.as_str(),
-        "2 + 2 > 4"
-    );
-    assert_eq!(rt; answered(rt.alloc(), "2 + 2", &4)?.as_str(), "2 + 2 > 4");
-    Ok(())
-}
 
 #[test]
 fn the_reader_of_a_question(rt: HostRuntime) -> Result<(), Fail> {

@@ -1,7 +1,7 @@
-//! Digests of four and of eight messages at once: the examples of FIPS 180-4, and the digests of `sha2` at lengths
-//! round the edges of blocks.
+//! Digests of four and of eight messages at once: the examples of FIPS 180-4, and the digests of `sha2` at all lengths
+//! up to some blocks.
 
-use dd_vectors::{ask_all, bytes_of, claim_all};
+use dd_vectors::{ask_all, bytes_of};
 use sha2::{Digest, Sha256};
 use sha256_lanes::{Digests, digest4, digest8};
 use std::alloc::Global;
@@ -15,21 +15,6 @@ const EXAMPLES: &str = "\
 248d6a61d20638b8e5c026930c3e6039a33ce45964ff2167f6ecedd419db06c1
 'abcdefghbcdefghicdefghijdefghijkefghijklfghijklmghijklmnhijklmnoijklmnopjklmnopqklmnopqrlmnopqrsmnopqrstnopqrstu > \
 cf5b16a778af8380036ce59e7b0492370b249b11e8f07a51afac45037afee9d1";
-
-/// Lengths of four messages. Each of nine edges stands in each place; in the last two lines one is so long that the
-/// messages are digested one by one.
-const LENGTHS: &str = "\
-55 56 63 64
-56 63 64 65
-63 64 65 119
-64 65 119 120
-65 119 120 127
-119 120 127 128
-120 127 128 55
-127 128 55 56
-128 55 56 63
-4096 0 1 64
-3 120 0 5000";
 
 /// The digest that all places give of one message, those of four and those of eight.
 fn digest_of(alloc: Global, question: &str) -> Result<String, Fail> {
@@ -97,25 +82,16 @@ fn are_digests(alloc: Global, a: u32, b: u32, c: u32, d: u32) -> Result<bool, Fa
     Ok(are_right(four, &first) && are_right(eight.0, &first) && are_right(eight.1, &last))
 }
 
-/// Are they, for the four lengths of this line?
-fn are_digests_of(alloc: Global, case: &str) -> Result<bool, Fail> {
-    let mut words = case.split(' ');
-    let mut next = || -> Result<u32, Fail> { Ok(words.next().ok_or("no length")?.parse()?) };
-    are_digests(alloc, next()?, next()?, next()?, next()?)
-}
-
 #[test]
 fn examples_of_the_standard(rt: HostRuntime) -> Result<(), Fail> {
     ask_all(rt.alloc(), EXAMPLES, digest_of)
 }
 
+/// Each length stands in each place. Where one is much longer than the others, the messages are digested one by one.
 #[test]
-fn lengths_at_the_edges_of_blocks(rt: HostRuntime) -> Result<(), Fail> {
-    claim_all(rt.alloc(), LENGTHS, '\n', are_digests_of)
-}
-
-#[test]
-fn lengths_from_0_to_300(rt: HostRuntime) -> Result<(), Fail> {
+fn lengths_from_0_to_300_and_longer_ones(rt: HostRuntime) -> Result<(), Fail> {
+    assert!(rt; are_digests(rt.alloc(), 4096, 0, 1, 64)?);
+    assert!(rt; are_digests(rt.alloc(), 3, 120, 0, 5000)?);
     for len in 0..=300u32 {
         let (b, c, d) = ((len + 7) % 301, (len + 70) % 301, (len + 150) % 301);
         assert!(rt; are_digests(rt.alloc(), len, b, c, d)?, "from {len}");

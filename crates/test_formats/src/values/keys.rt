@@ -1,10 +1,9 @@
 //! Padding, keys, and the order of keys and UIDs.
 
-use dd_elem::{Key, KeyRefused, Memory, Ordered, Uid, clean};
+use dd_elem::{Key, KeyRefused, Ordered, Uid, clean};
 use dd_vectors::{ask_all, bytes_of, text_of};
 use std::alloc::Global;
 use std::cmp::Ordering;
-use std::process::Abort;
 use std::test::Fail;
 
 /// Values, and what is left of them without padding. Two are of 22 and 23 bytes.
@@ -45,12 +44,8 @@ fn kept(alloc: Global, question: &str) -> Result<String, Fail> {
 }
 
 #[test]
-fn values_are_cleaned_of_padding(rt: HostRuntime) -> Result<(), Fail> {
-    ask_all(rt.alloc(), CLEAN, cleaned)
-}
-
-#[test]
-fn keys_have_no_padding(rt: HostRuntime) -> Result<(), Fail> {
+fn values_and_keys_have_no_padding(rt: HostRuntime) -> Result<(), Fail> {
+    ask_all(rt.alloc(), CLEAN, cleaned)?;
     ask_all(rt.alloc(), CLEAN, kept)
 }
 
@@ -66,21 +61,20 @@ fn keys_have_1024_bytes(rt: HostRuntime) -> Result<(), Fail> {
     Ok(())
 }
 
-#[test]
-fn want_of_memory_in_words(rt: HostRuntime) -> Result<(), Fail> {
-    let (key, other) = (KeyRefused::Memory, Memory);
-    assert_eq!(rt;
-        format!(in rt.alloc(); "{key}, {other}")?.as_str(),
-        "91 Memory, 91 Memory"
-    );
-    Ok(())
-}
-
 /// Compares two keys, and then the second with the first.
 fn order_of_keys(alloc: Global, left: &str, right: &str) -> Result<(Ordering, Ordering), Fail> {
     let left = key_of(alloc, left)?;
     let right = key_of(alloc, right)?;
     Ok((left.compare(&right), right.compare(&left)))
+}
+
+#[test]
+fn keys_stand_in_dictionary_order(rt: HostRuntime) -> Result<(), Fail> {
+    for (left, right) in KEYS.split(' ').zip(KEYS.split(' ').skip(1)) {
+        let found = order_of_keys(rt.alloc(), left, right)?;
+        assert_eq!(rt; found, (Ordering::Less, Ordering::Greater), "of {left}");
+    }
+    Ok(())
 }
 
 /// Compares two UIDs, and then the second with the first.
@@ -90,43 +84,11 @@ fn order_of_uids(left: &str, right: &str) -> Result<(Ordering, Ordering), Fail> 
     Ok((left.compare(&right), right.compare(&left)))
 }
 
-/// What stands in an order.
-#[derive(Clone, Copy)]
-enum Kind {
-    Key,
-    Uid,
-}
-
-/// How two of a kind stand, and how they stand the other way round.
-fn order(alloc: Global, kind: Kind, left: &str, right: &str) -> Result<(Ordering, Ordering), Fail> {
-    match kind {
-        Kind::Key => order_of_keys(alloc, left, right),
-        Kind::Uid => order_of_uids(left, right),
-    }
-}
-
-/// How the values at these places stand, and the other way round, where they rise with their places.
-fn wanted(left: usize, right: usize) -> (Ordering, Ordering) {
-    (left.cmp(&right), right.cmp(&left))
-}
-
-/// Compares each of these with each. They have to rise with their places.
-fn compare_all(rt: &impl Abort, alloc: Global, kind: Kind, words: &str) -> Result<(), Fail> {
-    for (place, left) in words.split(' ').enumerate() {
-        for (other, right) in words.split(' ').enumerate() {
-            let found = order(alloc, kind, left, right)?;
-            assert_eq!(rt; found, wanted(place, other), "of {left} and {right}");
-        }
-    }
-    Ok(())
-}
-
-#[test]
-fn keys_stand_in_dictionary_order(rt: HostRuntime) -> Result<(), Fail> {
-    compare_all(&rt, rt.alloc(), Kind::Key, KEYS)
-}
-
 #[test]
 fn uids_stand_in_dictionary_order(rt: HostRuntime) -> Result<(), Fail> {
-    compare_all(&rt, rt.alloc(), Kind::Uid, UIDS)
+    for (left, right) in UIDS.split(' ').zip(UIDS.split(' ').skip(1)) {
+        let found = order_of_uids(left, right)?;
+        assert_eq!(rt; found, (Ordering::Less, Ordering::Greater), "of {left}");
+    }
+    Ok(())
 }

@@ -8,41 +8,10 @@ use dd_keys::{KeyFault, Version, ingest, version_of};
 use dd_part10::FileFault;
 use dd_set::SetFault;
 use dd_vectors::{
-    ByteSource, allocation_numbers, answered, question, refuse_allocation, require, was_refused,
+    ByteSource, answered, question, refuse_allocation, refuse_each, require, was_refused,
 };
 use std::alloc::Global;
 use std::test::Fail;
-
-#[derive(Clone, Copy)]
-enum Call {
-    CopyOfParts,
-    CopyOfVersion,
-    Ingest,
-    IngestEncapsulated,
-    VersionOf,
-    VersionOfEncapsulated,
-}
-
-/// Says whether the chosen allocation of the call was refused.
-fn is_refused(alloc: Global, call: Call, chosen: u32) -> Result<bool, Fail> {
-    match call {
-        Call::CopyOfParts => copy_of_parts_refused(alloc, chosen),
-        Call::CopyOfVersion => copy_of_version_refused(alloc, chosen),
-        Call::Ingest => ingest_refused(alloc, LONG_KEYS, chosen),
-        Call::IngestEncapsulated => ingest_refused(alloc, ENCAPSULATED, chosen),
-        Call::VersionOf => version_of_refused(alloc, LONG_KEYS, chosen),
-        Call::VersionOfEncapsulated => version_of_refused(alloc, ENCAPSULATED, chosen),
-    }
-}
-
-fn refuse_each(alloc: Global, call: Call) -> Result<(), Fail> {
-    for chosen in allocation_numbers() {
-        if !is_refused(alloc, call, chosen)? {
-            return Ok(());
-        }
-    }
-    Err("the call has more allocations than are refused".into())
-}
 
 /// V1 with four keys of more than 22 bytes, one of them with padding: the SHA-256 of the file of 542 bytes, and the
 /// keys.
@@ -94,12 +63,13 @@ fn version_of_refused(alloc: Global, case: &str, chosen: u32) -> Result<bool, Fa
 
 #[test]
 fn allocations_of_version_of(rt: HostRuntime) -> Result<(), Fail> {
-    refuse_each(rt.alloc(), Call::VersionOf)
-}
-
-#[test]
-fn allocations_of_version_of_encapsulated(rt: HostRuntime) -> Result<(), Fail> {
-    refuse_each(rt.alloc(), Call::VersionOfEncapsulated)
+    for case in [LONG_KEYS, ENCAPSULATED] {
+        refuse_each(
+            rt.alloc(),
+            |alloc, chosen| version_of_refused(alloc, case, chosen),
+        )?;
+    }
+    Ok(())
 }
 
 /// Reads a version from a reader, which is at its end afterwards, also where an allocation was refused.
@@ -121,12 +91,13 @@ fn ingest_refused(alloc: Global, case: &str, chosen: u32) -> Result<bool, Fail> 
 
 #[test]
 fn allocations_of_ingest(rt: HostRuntime) -> Result<(), Fail> {
-    refuse_each(rt.alloc(), Call::Ingest)
-}
-
-#[test]
-fn allocations_of_ingest_encapsulated(rt: HostRuntime) -> Result<(), Fail> {
-    refuse_each(rt.alloc(), Call::IngestEncapsulated)
+    for case in [LONG_KEYS, ENCAPSULATED] {
+        refuse_each(
+            rt.alloc(),
+            |alloc, chosen| ingest_refused(alloc, case, chosen),
+        )?;
+    }
+    Ok(())
 }
 
 /// Copies a version, which shares its long keys.
@@ -145,23 +116,5 @@ fn copy_of_version_refused(alloc: Global, chosen: u32) -> Result<bool, Fail> {
 
 #[test]
 fn no_allocations_of_copy_of_version(rt: HostRuntime) -> Result<(), Fail> {
-    refuse_each(rt.alloc(), Call::CopyOfVersion)
-}
-
-fn copy_of_parts_refused(alloc: Global, chosen: u32) -> Result<bool, Fail> {
-    let version = version_of(alloc, &file_of(alloc, question(LONG_KEYS))?)?;
-    refuse_allocation(alloc, chosen)?;
-    let answer = version.parts().copy();
-    let refused = was_refused(alloc, answer.is_err())?;
-    let copy = match answer {
-        Ok(copy) => copy,
-        Err(_) => version.parts().copy()?,
-    };
-    require(copy == *version.parts(), "the copy is equal")?;
-    Ok(refused)
-}
-
-#[test]
-fn no_allocations_of_copy_of_parts(rt: HostRuntime) -> Result<(), Fail> {
-    refuse_each(rt.alloc(), Call::CopyOfParts)
+    refuse_each(rt.alloc(), copy_of_version_refused)
 }

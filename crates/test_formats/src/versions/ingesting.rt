@@ -8,8 +8,8 @@ use std::alloc::Global;
 use std::test::Fail;
 
 /// The most bytes of a read, after how many the reader fails, the limit, and the file. It is V1 (454 bytes), whole or
-/// its front of the given length, V1 with pixel data in fragments (496 bytes), or V1 with other elements. A failure and
-/// one byte more than the limit come before every check, wherever it fails.
+/// its front of the given length, V1 with pixel data in fragments (496 bytes), with a long Patient ID, or with other
+/// elements. A failure and one byte more than the limit come before every check, wherever it fails.
 const READ: &str = "\
 1 1000 454 whole > taken
 7 1000 454 whole > taken
@@ -44,7 +44,9 @@ const READ: &str = "\
 100 1000 500 0008,0018 UI '1.2.3.4.6~ > 37 MetaMismatch (0008,0018)
 7 1000 500 0002,0000 UL 88000000; 0002,0002 UI '1.2.840.10008.5.1.4.1.1.88.11~ > \
 32 NotImage 1.2.840.10008.5.1.4.1.1.88.11
-7 450 500 0002,0000 UL 88000000; 0002,0002 UI '1.2.840.10008.5.1.4.1.1.88.11~ > 38 Read";
+7 450 500 0002,0000 UL 88000000; 0002,0002 UI '1.2.840.10008.5.1.4.1.1.88.11~ > 38 Read
+7 3000 2000 long 1024 ____ > taken
+7 3000 2000 long 1025 _ > 35 KeyTooLong (0010,0020)";
 
 /// V1 and after it (7FE0,0010) with 1,000,000 bytes of zero: the most bytes of a read, the limit, the SHA-256 and the
 /// keys.
@@ -63,17 +65,15 @@ efcd87e22343fd137453c1ffbda35b482032867d71027bbfdc706b672e5a5d5b \
 '1.2.840.10008.5.1.4.1.1.2 '1.2.840.10008.1.2.1 '1.2.3.4.5
 4096 1000465 > 39 FileTooLong";
 
-/// V1 with a Patient ID of this many letters and this padding: how many bytes are kept, or the refusal.
-const LONG: &str = "\
-1024 ____ > 1024 bytes
-1025 _ > 35 KeyTooLong (0010,0020)";
-
 fn file_of(alloc: Global, name: &str) -> Result<Vec<u8>, Fail> {
     if name == "whole" {
         return v1(alloc);
     }
     if name == "encapsulated" {
         return v1_encapsulated(alloc);
+    }
+    if let Some(words) = name.strip_prefix("long ") {
+        return with_patient_id(alloc, words);
     }
     let Ok(size) = name.parse() else {
         return v1_with(alloc, name);
@@ -125,50 +125,6 @@ fn ingested(alloc: Global, question: &str) -> Result<String, Fail> {
     Ok(answer)
 }
 
-#[test]
-fn a_reader_gives_the_version_of_its_bytes(rt: HostRuntime) -> Result<(), Fail> {
-    ask_all(rt.alloc(), READ, ingested)
-}
-
-/// The most bytes of a read, and the range of bytes after which the reader of V1 fails. Then the outcome with each such
-/// reader, where the limit is the 454 bytes of V1.
-const UNREAD: &str = "\
-1 0 454 > 38 Read
-7 0 454 > 38 Read
-100 0 454 > 38 Read
-4096 0 454 > 38 Read
-1 455 460 > taken
-4096 455 460 > taken";
-
-fn failing_at(alloc: Global, bytes: &[u8], piece: u64, fails: u64) -> Result<String, Fail> {
-    let mut source = ByteSource::new(bytes, piece, Some(fails));
-    outcome(alloc, bytes, ingest(alloc, &mut source, 454))
-}
-
-/// Gives the outcome of each such reader of V1, or the first that differs.
-fn unread_in(alloc: Global, piece: u64, first: u64, last: u64) -> Result<String, Fail> {
-    let bytes = v1(alloc)?;
-    let common = failing_at(alloc, &bytes, piece, first)?;
-    for fails in first..=last {
-        let answer = failing_at(alloc, &bytes, piece, fails)?;
-        if answer.as_str() != common.as_str() {
-            return Ok(format!(in alloc; "{answer} at {fails}")?);
-        }
-    }
-    Ok(common)
-}
-
-fn unread(alloc: Global, question: &str) -> Result<String, Fail> {
-    let (piece, rest) = question.split_once(' ').ok_or("no failure")?;
-    let (first, last) = rest.split_once(' ').ok_or("no last")?;
-    unread_in(alloc, piece.parse()?, first.parse()?, last.parse()?)
-}
-
-#[test]
-fn a_reader_may_fail_at_every_byte(rt: HostRuntime) -> Result<(), Fail> {
-    ask_all(rt.alloc(), UNREAD, unread)
-}
-
 fn large_file(alloc: Global) -> Result<Vec<u8>, Fail> {
     let mut bytes = v1(alloc)?;
     push_bytes(alloc, &mut bytes, "e07f1000 4f57 0000 40420f00")?;
@@ -194,24 +150,9 @@ fn large(alloc: Global, question: &str) -> Result<String, Fail> {
     }
 }
 
+/// The digest covers what stands after the keys, too.
 #[test]
-fn the_digest_covers_what_stands_behind_the_keys(rt: HostRuntime) -> Result<(), Fail> {
+fn a_reader_gives_the_version_of_its_bytes(rt: HostRuntime) -> Result<(), Fail> {
+    ask_all(rt.alloc(), READ, ingested)?;
     ask_all(rt.alloc(), LARGE, large)
-}
-
-fn long(alloc: Global, question: &str) -> Result<String, Fail> {
-    let bytes = with_patient_id(alloc, question)?;
-    let mut source = ByteSource::new(&bytes, 7, None);
-    match ingest(alloc, &mut source, 2000) {
-        Ok(version) => {
-            let kept = version.parts().patient.id.as_bytes().len();
-            Ok(format!(in alloc; "{kept} bytes")?)
-        }
-        Err(fault) => Ok(format!(in alloc; "{fault}")?),
-    }
-}
-
-#[test]
-fn keys_of_a_reader_have_1024_bytes(rt: HostRuntime) -> Result<(), Fail> {
-    ask_all(rt.alloc(), LONG, long)
 }

@@ -1,6 +1,6 @@
 use dd_elem::{Key, Ordered, Uid};
 use dd_keys::{Parts, Version, version_of};
-use dd_vectors::{ask_all, bytes_of, v1};
+use dd_vectors::{ask_all, bytes_of, fitting, parts_of, v1};
 use std::alloc::Global;
 use std::cmp::Ordering;
 use std::test::Fail;
@@ -86,10 +86,6 @@ fn put(alloc: Global, parts: &mut Parts, tag: &str, value: &[u8]) -> Result<(), 
     Ok(())
 }
 
-fn parts_of(version: &Version) -> Result<Parts, Fail> {
-    Ok(version.parts().copy()?)
-}
-
 /// Gives the parts of V1 with these changes, `gggg,eeee VALUE` each, separated by `; `.
 fn parts_with(alloc: Global, changes: &str) -> Result<Parts, Fail> {
     let mut parts = parts_of(&version_of(alloc, &v1(alloc)?)?)?;
@@ -116,10 +112,7 @@ fn version(alloc: Global, line: &str) -> Result<Version, Fail> {
     let (digest, changes) = line.split_once(' ').ok_or("no changes")?;
     let mut parts = parts_with(alloc, changes)?;
     parts.digest = [digest.parse()?; 32];
-    match Version::of(parts) {
-        Ok(version) => Ok(version),
-        Err(_) => Err("it does not fit".into()),
-    }
+    fitting(parts)
 }
 
 /// Compares the two, in both orders.
@@ -134,20 +127,6 @@ fn versions_stand_in_the_order_of_their_parts(rt: HostRuntime) -> Result<(), Fai
     for (left, right) in RISING.split('\n').zip(RISING.split('\n').skip(1)) {
         let found = order(rt.alloc(), left, right)?;
         assert_eq!(rt; found, (Ordering::Less, Ordering::Greater), "of {left}");
-    }
-    Ok(())
-}
-
-fn order_of_copy(alloc: Global, line: &str) -> Result<Ordering, Fail> {
-    let version = version(alloc, line)?;
-    let copy = version.copy()?;
-    Ok(version.compare(&copy))
-}
-
-#[test]
-fn copies_are_equal(rt: HostRuntime) -> Result<(), Fail> {
-    for line in RISING.split('\n') {
-        assert_eq!(rt; order_of_copy(rt.alloc(), line)?, Ordering::Equal);
     }
     Ok(())
 }

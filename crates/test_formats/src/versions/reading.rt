@@ -41,11 +41,6 @@ fn digest(alloc: Global, question: &str) -> Result<String, Fail> {
     Ok(hex::encode(alloc, version.parts().digest)?)
 }
 
-#[test]
-fn the_digest_is_that_of_the_file(rt: HostRuntime) -> Result<(), Fail> {
-    ask_all(rt.alloc(), DIGESTS, digest)
-}
-
 fn first_keys(parts: &Parts) -> [&[u8]; 10] {
     let (patient, study) = (&parts.patient, &parts.study);
     [
@@ -98,6 +93,7 @@ fn keys(alloc: Global, question: &str) -> Result<String, Fail> {
 }
 
 #[test]
-fn the_keys_are_those_of_the_data_set(rt: HostRuntime) -> Result<(), Fail> {
+fn a_version_has_the_digest_and_the_keys_of_its_file(rt: HostRuntime) -> Result<(), Fail> {
+    ask_all(rt.alloc(), DIGESTS, digest)?;
     ask_all(rt.alloc(), KEYS, keys)
 }

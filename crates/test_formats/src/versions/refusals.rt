@@ -1,5 +1,6 @@
 //! Bytes that are no file of a version, each with the first check that they fail.
 
+use dd_elem::{KeyRefused, Memory};
 use dd_keys::{KeyFault, Parts, version_of};
 use dd_part10::FileFault;
 use dd_set::SetFault;
@@ -61,14 +62,6 @@ const OTHER: &str = "\
 32 NotImage 1.2.840.10008.5.1.4.1.1.88.11
 0010,0020 SQ; 0020,000D UI '1..2.3; 0020,000E absent > 36 KeyIsSequence (0010,0020)";
 
-fn answer(alloc: Global, bytes: &[u8]) -> Result<String, Fail> {
-    let fault = version_of(alloc, bytes).err();
-    match fault {
-        None => Ok(String::from_str(alloc, "taken")?),
-        Some(fault) => Ok(format!(in alloc; "{fault}")?),
-    }
-}
-
 fn numbers(alloc: Global, bytes: &[u8]) -> Result<String, Fail> {
     match version_of(alloc, bytes) {
         Ok(version) => numbers_of(alloc, version.parts()),
@@ -108,13 +101,10 @@ fn no_version_of_a_file_cut_short(rt: HostRuntime) -> Result<(), Fail> {
 }
 
 fn other(alloc: Global, question: &str) -> Result<String, Fail> {
-    let bytes = v1_with(alloc, question)?;
-    answer(alloc, &bytes)
-}
-
-#[test]
-fn the_first_check_of_a_key_that_fails(rt: HostRuntime) -> Result<(), Fail> {
-    ask_all(rt.alloc(), OTHER, other)
+    match version_of(alloc, &v1_with(alloc, question)?) {
+        Ok(_) => Ok(String::from_str(alloc, "taken")?),
+        Err(fault) => Ok(format!(in alloc; "{fault}")?),
+    }
 }
 
 /// V1 with a Patient ID of this many letters and this padding: how many bytes are kept, or the refusal.
@@ -151,17 +141,22 @@ fn long(alloc: Global, question: &str) -> Result<String, Fail> {
 }
 
 #[test]
-fn keys_have_1024_bytes(rt: HostRuntime) -> Result<(), Fail> {
+fn the_first_check_of_a_key_that_fails(rt: HostRuntime) -> Result<(), Fail> {
+    ask_all(rt.alloc(), OTHER, other)?;
     ask_all(rt.alloc(), LONG, long)
 }
 
 #[test]
 fn want_of_memory_in_words(rt: HostRuntime) -> Result<(), Fail> {
+    let (key, meta) = (KeyRefused::Memory, FileFault::Meta(SetFault::Memory));
     let (keys, file) = (
         KeyFault::Memory,
         KeyFault::File(FileFault::Set(SetFault::Memory)),
     );
-    let text = format!(in rt.alloc(); "{keys}, {file}")?;
-    assert_eq!(rt; text.as_str(), "91 Memory, 31 File 27 Set 91 Memory");
+    let text = format!(in rt.alloc(); "{key}, {Memory}, {meta}, {keys}, {file}")?;
+    assert_eq!(rt;
+        text.as_str(),
+        "91 Memory, 91 Memory, 26 Meta 91 Memory, 91 Memory, 31 File 27 Set 91 Memory"
+    );
     Ok(())
 }

@@ -33,11 +33,6 @@ fn zeros(alloc: Global, question: &str) -> Result<String, Fail> {
 }
 
 #[test]
-fn a_slot_has_the_digest_of_its_bytes(rt: HostRuntime) -> Result<(), Fail> {
-    ask_all(rt.alloc(), ZEROS, zeros)
-}
-
-#[test]
 fn a_slot_keeps_8_mib(rt: HostRuntime) -> Result<(), Fail> {
     let slot = slot_of_zeros(rt.alloc(), "8388608")?;
     let bytes = slot.bytes().ok_or("the slot hashes")?;
@@ -67,7 +62,10 @@ fn four(alloc: Global, question: &str) -> Result<String, Fail> {
 }
 
 #[test]
-fn slots_have_their_own_digests(rt: HostRuntime) -> Result<(), Fail> {
+fn slots_have_the_digests_of_their_bytes(rt: HostRuntime) -> Result<(), Fail> {
+    require(Lanes::Four.count() == 4, "not four")?;
+    require(Lanes::Eight.count() == 8, "not eight")?;
+    ask_all(rt.alloc(), ZEROS, zeros)?;
     ask_all(rt.alloc(), FOUR, four)
 }
 
@@ -91,10 +89,4 @@ fn a_slot_that_hashes_leaves_others_their_digests(rt: HostRuntime) -> Result<(),
         )?;
     }
     Ok(())
-}
-
-#[test]
-fn lanes_have_their_counts(_rt: HostRuntime) -> Result<(), Fail> {
-    require(Lanes::Four.count() == 4, "not four")?;
-    require(Lanes::Eight.count() == 8, "not eight")
 }
