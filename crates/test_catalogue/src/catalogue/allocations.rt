@@ -2,31 +2,12 @@
 
 use crate::catalogue::joining::{batches, catalogues};
 use crate::catalogue::studies::studies;
-use dd_catalogue::{Catalogue, History, Join, Refused, Took, Withdrew, build, gather};
+use dd_catalogue::{Catalogue, History, Join, Refused, Took, build, gather};
 use dd_elem::{Memory, Uid};
-use dd_vectors::{
-    allocation_numbers, image, images, refuse_allocation, require, taken, was_refused,
-};
+use dd_vectors::{image, images, refuse_allocation, refuse_each, require, taken, was_refused};
 use dd_version::Version;
 use std::alloc::Global;
 use std::test::Fail;
-
-/// The calls that can want memory, and two that never do.
-#[derive(Clone, Copy)]
-enum Call {
-    Build,
-    Conflict,
-    Copy,
-    FromVersions,
-    Gather,
-    Harmonise,
-    JoinVersions,
-    Join(Way),
-    MergeWithdrawn,
-    Take,
-    Withdraw,
-    WithdrawAgain,
-}
 
 /// The calls that join a catalogue with another.
 #[derive(Clone, Copy)]
@@ -34,34 +15,6 @@ enum Way {
     Join,
     Merge,
     MergeCounted,
-}
-
-/// Makes the call with the chosen allocation refused, and answers whether one was.
-fn is_refused(alloc: Global, call: Call, chosen: u32) -> Result<bool, Fail> {
-    match call {
-        Call::Build => build_refused(alloc, chosen),
-        Call::Conflict => conflict_refused(alloc, chosen),
-        Call::Copy => copy_refused(alloc, chosen),
-        Call::FromVersions => from_versions_refused(alloc, chosen),
-        Call::Gather => gather_refused(alloc, chosen),
-        Call::Harmonise => harmonise_refused(alloc, chosen),
-        Call::JoinVersions => join_versions_refused(alloc, chosen),
-        Call::Join(way) => join_refused(alloc, way, chosen),
-        Call::MergeWithdrawn => merge_withdrawn_refused(alloc, chosen),
-        Call::Take => take_refused(alloc, chosen),
-        Call::Withdraw => withdraw_refused(alloc, chosen),
-        Call::WithdrawAgain => withdraw_again_refused(alloc, chosen),
-    }
-}
-
-/// Makes the call with each of its allocations refused in turn.
-fn refuse_each(alloc: Global, call: Call) -> Result<(), Fail> {
-    for chosen in allocation_numbers() {
-        if !is_refused(alloc, call, chosen)? {
-            return Ok(());
-        }
-    }
-    Err("the call has more allocations than are refused".into())
 }
 
 /// Fails where the catalogue is not the one that took these images.
@@ -87,7 +40,7 @@ fn build_refused(alloc: Global, chosen: u32) -> Result<bool, Fail> {
 
 #[test]
 fn allocations_of_build(rt: HostRuntime) -> Result<(), Fail> {
-    refuse_each(rt.alloc(), Call::Build)
+    refuse_each(rt.alloc(), build_refused)
 }
 
 fn from_versions_refused(alloc: Global, chosen: u32) -> Result<bool, Fail> {
@@ -105,7 +58,7 @@ fn from_versions_refused(alloc: Global, chosen: u32) -> Result<bool, Fail> {
 
 #[test]
 fn allocations_of_from_versions(rt: HostRuntime) -> Result<(), Fail> {
-    refuse_each(rt.alloc(), Call::FromVersions)
+    refuse_each(rt.alloc(), from_versions_refused)
 }
 
 fn copy_refused(alloc: Global, chosen: u32) -> Result<bool, Fail> {
@@ -124,7 +77,7 @@ fn copy_refused(alloc: Global, chosen: u32) -> Result<bool, Fail> {
 
 #[test]
 fn allocations_of_copy(rt: HostRuntime) -> Result<(), Fail> {
-    refuse_each(rt.alloc(), Call::Copy)
+    refuse_each(rt.alloc(), copy_refused)
 }
 
 /// Asks for the conflict of two images, of which one has its series in another study.
@@ -145,7 +98,7 @@ fn conflict_refused(alloc: Global, chosen: u32) -> Result<bool, Fail> {
 
 #[test]
 fn allocations_of_conflict(rt: HostRuntime) -> Result<(), Fail> {
-    refuse_each(rt.alloc(), Call::Conflict)
+    refuse_each(rt.alloc(), conflict_refused)
 }
 
 /// The studies of two images in harmony.
@@ -170,7 +123,7 @@ fn harmonise_refused(alloc: Global, chosen: u32) -> Result<bool, Fail> {
 
 #[test]
 fn allocations_of_harmonise(rt: HostRuntime) -> Result<(), Fail> {
-    refuse_each(rt.alloc(), Call::Harmonise)
+    refuse_each(rt.alloc(), harmonise_refused)
 }
 
 /// Joins a catalogue with another in this way.
@@ -202,17 +155,10 @@ fn join_refused(alloc: Global, way: Way, chosen: u32) -> Result<bool, Fail> {
 
 #[test]
 fn allocations_of_join(rt: HostRuntime) -> Result<(), Fail> {
-    refuse_each(rt.alloc(), Call::Join(Way::Join))
-}
-
-#[test]
-fn allocations_of_merge(rt: HostRuntime) -> Result<(), Fail> {
-    refuse_each(rt.alloc(), Call::Join(Way::Merge))
-}
-
-#[test]
-fn allocations_of_merge_counted(rt: HostRuntime) -> Result<(), Fail> {
-    refuse_each(rt.alloc(), Call::Join(Way::MergeCounted))
+    for way in [Way::Join, Way::Merge, Way::MergeCounted] {
+        refuse_each(rt.alloc(), |alloc, chosen| join_refused(alloc, way, chosen))?;
+    }
+    Ok(())
 }
 
 /// Does the catalogue hold one of these, which the joins before the refused one make of it?
@@ -245,23 +191,7 @@ fn gather_refused(alloc: Global, chosen: u32) -> Result<bool, Fail> {
 
 #[test]
 fn allocations_of_gather(rt: HostRuntime) -> Result<(), Fail> {
-    refuse_each(rt.alloc(), Call::Gather)
-}
-
-/// Joins a version with a greater one, whose long description is shared and not copied.
-fn join_versions_refused(alloc: Global, chosen: u32) -> Result<bool, Fail> {
-    let mut version = image(alloc, 'A')?;
-    let greater = image(alloc, 'W')?;
-    refuse_allocation(alloc, chosen)?;
-    let answer = version.join(&greater);
-    let refused = was_refused(alloc, answer.is_err())?;
-    require(version == greater, "the greater version stays")?;
-    Ok(refused)
-}
-
-#[test]
-fn no_allocations_of_join_of_versions(rt: HostRuntime) -> Result<(), Fail> {
-    refuse_each(rt.alloc(), Call::JoinVersions)
+    refuse_each(rt.alloc(), gather_refused)
 }
 
 /// Does the catalogue take the version as a new one?
@@ -293,7 +223,7 @@ fn take_refused(alloc: Global, chosen: u32) -> Result<bool, Fail> {
 
 #[test]
 fn allocations_of_take(rt: HostRuntime) -> Result<(), Fail> {
-    refuse_each(rt.alloc(), Call::Take)
+    refuse_each(rt.alloc(), take_refused)
 }
 
 /// The first of the images.
@@ -316,27 +246,6 @@ fn require_without_first(alloc: Global, catalogue: &Catalogue, letters: &str) ->
     )
 }
 
-/// Merges a catalogue with one that has withdrawn one of its images.
-fn merge_withdrawn_refused(alloc: Global, chosen: u32) -> Result<bool, Fail> {
-    let mut catalogue = taken(alloc, "13")?;
-    let other = without_first(alloc, "2")?;
-    refuse_allocation(alloc, chosen)?;
-    let answer = catalogue.merge(&other);
-    let refused = was_refused(alloc, answer.is_err())?;
-    if refused {
-        require_held(alloc, &catalogue, "13")?;
-        catalogue.merge(&other)?;
-    }
-    require_without_first(alloc, &catalogue, "23")?;
-    require_without_first(alloc, &other, "2")?;
-    Ok(refused)
-}
-
-#[test]
-fn allocations_of_merge_with_what_is_withdrawn(rt: HostRuntime) -> Result<(), Fail> {
-    refuse_each(rt.alloc(), Call::MergeWithdrawn)
-}
-
 /// Withdraws an image that is held.
 fn withdraw_refused(alloc: Global, chosen: u32) -> Result<bool, Fail> {
     let mut catalogue = taken(alloc, "12")?;
@@ -354,25 +263,5 @@ fn withdraw_refused(alloc: Global, chosen: u32) -> Result<bool, Fail> {
 
 #[test]
 fn allocations_of_withdraw(rt: HostRuntime) -> Result<(), Fail> {
-    refuse_each(rt.alloc(), Call::Withdraw)
-}
-
-/// Withdraws an image that is withdrawn already.
-fn withdraw_again_refused(alloc: Global, chosen: u32) -> Result<bool, Fail> {
-    let mut catalogue = without_first(alloc, "12")?;
-    let instance = first_instance()?;
-    refuse_allocation(alloc, chosen)?;
-    let answer = catalogue.withdraw(instance);
-    let refused = was_refused(alloc, answer.is_err())?;
-    require(
-        matches!(answer, Ok(Withdrew::Already)),
-        "the image was withdrawn before",
-    )?;
-    require_without_first(alloc, &catalogue, "2")?;
-    Ok(refused)
-}
-
-#[test]
-fn no_allocations_of_withdraw_again(rt: HostRuntime) -> Result<(), Fail> {
-    refuse_each(rt.alloc(), Call::WithdrawAgain)
+    refuse_each(rt.alloc(), withdraw_refused)
 }

@@ -19,15 +19,6 @@ BA > 'B
 ABA > 'B
 A > 'A";
 
-/// The catalogue of each group, merged into the one of those before.
-fn merged(alloc: Global, groups: &str) -> Result<Catalogue, Fail> {
-    let mut catalogue = Catalogue::new(alloc);
-    for letters in groups.split('+') {
-        catalogue.merge(&taken(alloc, letters)?)?;
-    }
-    Ok(catalogue)
-}
-
 /// The catalogue of each group.
 pub(crate) fn catalogues(alloc: Global, groups: &str) -> Result<Vec<Catalogue>, Fail> {
     let mut catalogues = Vec::new(alloc);
@@ -35,13 +26,6 @@ pub(crate) fn catalogues(alloc: Global, groups: &str) -> Result<Vec<Catalogue>, 
         catalogues.push(taken(alloc, letters)?)?;
     }
     Ok(catalogues)
-}
-
-/// These, joined.
-fn gathered(alloc: Global, groups: &str) -> Result<Catalogue, Fail> {
-    let mut catalogue = Catalogue::new(alloc);
-    gather(&mut catalogue, &catalogues(alloc, groups)?)?;
-    Ok(catalogue)
 }
 
 /// A batch of each group, or an empty merge where it has no letters.
@@ -57,43 +41,28 @@ pub(crate) fn batches(alloc: Global, groups: &str) -> Result<Vec<History>, Fail>
     Ok(parts)
 }
 
-/// Builds the catalogue of these groups.
-fn built(alloc: Global, groups: &str) -> Result<Catalogue, Fail> {
-    let history = History::Merge(batches(alloc, groups)?);
-    Ok(build(alloc, &history)?)
-}
-
 /// Does the catalogue, and does its copy, hold the four images?
 fn holds_four(alloc: Global, catalogue: &Catalogue) -> Result<bool, Fail> {
     let four = taken(alloc, "1234")?;
     Ok(*catalogue == four && catalogue.copy()? == four)
 }
 
-fn merge_to_four(alloc: Global, groups: &str) -> Result<bool, Fail> {
-    holds_four(alloc, &merged(alloc, groups)?)
-}
-
-#[test]
-fn merges_have_no_order(rt: HostRuntime) -> Result<(), Fail> {
-    claim_all(rt.alloc(), FOUR, ' ', merge_to_four)
-}
-
-fn gather_to_four(alloc: Global, groups: &str) -> Result<bool, Fail> {
-    holds_four(alloc, &gathered(alloc, groups)?)
+/// Are the four images merged, joined and built of these groups?
+fn are_four(alloc: Global, groups: &str) -> Result<bool, Fail> {
+    let all = catalogues(alloc, groups)?;
+    let mut merged = Catalogue::new(alloc);
+    for one in &all {
+        merged.merge(one)?;
+    }
+    let mut gathered = Catalogue::new(alloc);
+    gather(&mut gathered, &all)?;
+    let built = build(alloc, &History::Merge(batches(alloc, groups)?))?;
+    Ok(holds_four(alloc, &merged)? && gathered == merged && built == merged)
 }
 
 #[test]
 fn joins_have_no_order(rt: HostRuntime) -> Result<(), Fail> {
-    claim_all(rt.alloc(), FOUR, ' ', gather_to_four)
-}
-
-fn build_to_four(alloc: Global, groups: &str) -> Result<bool, Fail> {
-    holds_four(alloc, &built(alloc, groups)?)
-}
-
-#[test]
-fn histories_give_the_best_that_they_took(rt: HostRuntime) -> Result<(), Fail> {
-    claim_all(rt.alloc(), FOUR, ' ', build_to_four)
+    claim_all(rt.alloc(), FOUR, ' ', are_four)
 }
 
 /// The description of the first version, joined with the others.

@@ -4,6 +4,6 @@ mod allocations;
 mod counting;
 mod equality;
 mod joining;
-mod studies;
+pub(crate) mod studies;
 mod taking;
 mod withdrawing;

@@ -31,13 +31,8 @@ fn conflict(alloc: Global, question: &str) -> Result<String, Fail> {
     }
 }
 
-#[test]
-fn the_least_instances_that_conflict(rt: HostRuntime) -> Result<(), Fail> {
-    ask_all(rt.alloc(), CONFLICTS, conflict)
-}
-
 /// Puts the instance, and the time and the description of its study, after the text.
-fn push_study(alloc: Global, text: &mut String, parts: &Parts) -> Result<(), Fail> {
+pub(crate) fn push_study(alloc: Global, text: &mut String, parts: &Parts) -> Result<(), Fail> {
     if !text.is_empty() {
         text.push_str(", ")?;
     }
@@ -64,11 +59,6 @@ fn harmony(alloc: Global, question: &str) -> Result<String, Fail> {
     studies(alloc, &harmonised)
 }
 
-#[test]
-fn harmonised_versions_agree(rt: HostRuntime) -> Result<(), Fail> {
-    ask_all(rt.alloc(), HARMONIES, harmony)
-}
-
 /// Makes the catalogue of the list itself, or finds what conflicts in it.
 fn of_list(alloc: Global, question: &str, withdrawn: Withdrawals) -> Result<Harmony, Fail> {
     let versions = images(alloc, question)?;
@@ -81,24 +71,22 @@ fn of_list(alloc: Global, question: &str, withdrawn: Withdrawals) -> Result<Harm
     })
 }
 
-fn list_harmony(alloc: Global, question: &str) -> Result<String, Fail> {
-    match of_list(alloc, question, Withdrawals::new(alloc))? {
-        Harmony::Found(catalogue) => studies(alloc, &catalogue),
-        Harmony::Conflict(..) => Err("two versions conflict".into()),
+/// The studies of all instances in harmony, or the two that conflict.
+fn in_words(alloc: Global, answer: &Harmony) -> Result<String, Fail> {
+    match answer {
+        Harmony::Found(harmony) => studies(alloc, harmony),
+        Harmony::Conflict(first, second) => Ok(format!(in alloc; "{first} {second}")?),
     }
 }
 
-fn list_conflict(alloc: Global, question: &str) -> Result<String, Fail> {
-    match of_list(alloc, question, Withdrawals::new(alloc))? {
-        Harmony::Found(_) => Ok(String::from_str(alloc, "none")?),
-        Harmony::Conflict(one, other) => Ok(format!(in alloc; "{one} {other}")?),
-    }
+fn list_told(alloc: Global, question: &str) -> Result<String, Fail> {
+    in_words(alloc, &of_list(alloc, question, Withdrawals::new(alloc))?)
 }
 
 #[test]
 fn a_list_becomes_its_catalogue_in_harmony(rt: HostRuntime) -> Result<(), Fail> {
-    ask_all(rt.alloc(), HARMONIES, list_harmony)?;
-    ask_all(rt.alloc(), CONFLICTS, list_conflict)?;
+    ask_all(rt.alloc(), HARMONIES, list_told)?;
+    ask_all(rt.alloc(), CONFLICTS_ALONE, list_told)?;
     let mut uids = Vec::new(rt.alloc());
     uids.push(Uid::new(b"1.2.3.4.5")?)?;
     let list = of_list(rt.alloc(), "2A1CA2", Withdrawals::from_list(uids))?;
@@ -110,13 +98,8 @@ fn a_list_becomes_its_catalogue_in_harmony(rt: HostRuntime) -> Result<(), Fail> 
     Ok(())
 }
 
-/// The studies of all instances in harmony, or the two that conflict.
 fn harmony_or_conflict(alloc: Global, question: &str) -> Result<String, Fail> {
-    let catalogue = taken(alloc, question)?;
-    match catalogue.harmonise_or_conflict()? {
-        Harmony::Found(harmony) => studies(alloc, &harmony),
-        Harmony::Conflict(first, second) => Ok(format!(in alloc; "{first} {second}")?),
-    }
+    in_words(alloc, &taken(alloc, question)?.harmonise_or_conflict()?)
 }
 
 /// Catalogues with two instances that conflict, and these.
@@ -125,7 +108,9 @@ const CONFLICTS_ALONE: &str = "\
 6251 > 1.2.3.4.5 1.2.3.4.7";
 
 #[test]
-fn one_call_answers_harmony_or_conflict(rt: HostRuntime) -> Result<(), Fail> {
+fn harmonised_versions_agree_or_two_conflict(rt: HostRuntime) -> Result<(), Fail> {
+    ask_all(rt.alloc(), CONFLICTS, conflict)?;
+    ask_all(rt.alloc(), HARMONIES, harmony)?;
     ask_all(rt.alloc(), HARMONIES, harmony_or_conflict)?;
     ask_all(rt.alloc(), CONFLICTS_ALONE, harmony_or_conflict)
 }

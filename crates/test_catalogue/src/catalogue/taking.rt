@@ -62,11 +62,6 @@ fn takes(alloc: Global, question: &str) -> Result<String, Fail> {
     Ok(text)
 }
 
-#[test]
-fn the_greatest_version_of_each_instance_stays(rt: HostRuntime) -> Result<(), Fail> {
-    ask_all(rt.alloc(), TAKES, takes)
-}
-
 fn got(alloc: Global, question: &str) -> Result<String, Fail> {
     let catalogue = taken(alloc, "12")?;
     match catalogue.get(&Uid::new(question.as_bytes())?) {
@@ -76,21 +71,9 @@ fn got(alloc: Global, question: &str) -> Result<String, Fail> {
 }
 
 #[test]
-fn versions_are_got_by_their_instances(rt: HostRuntime) -> Result<(), Fail> {
+fn the_greatest_version_of_each_instance_stays(rt: HostRuntime) -> Result<(), Fail> {
+    ask_all(rt.alloc(), TAKES, takes)?;
     ask_all(rt.alloc(), GOT, got)
-}
-
-/// How many instances the catalogue of these letters holds.
-fn count(alloc: Global, letters: &str) -> Result<usize, Fail> {
-    let catalogue = taken(alloc, letters)?;
-    Ok(catalogue.len())
-}
-
-#[test]
-fn an_instance_counts_once(rt: HostRuntime) -> Result<(), Fail> {
-    assert_eq!(rt; count(rt.alloc(), "")?, 0);
-    assert_eq!(rt; count(rt.alloc(), "1ab2")?, 2);
-    Ok(())
 }
 
 #[test]

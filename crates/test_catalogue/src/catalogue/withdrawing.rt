@@ -1,11 +1,11 @@
 //! What is withdrawn, and what it takes out.
 
 use dd_catalogue::{
-    Catalogue, History, Took, Withdrew, build, held_is_apart, held_of_held, kept_is_best_of_left,
-    kept_of_all, kept_of_kept, kept_order_is_free, withdrawn_decides,
+    Catalogue, Took, Withdrew, held_is_apart, held_of_held, kept_is_best_of_left, kept_of_all,
+    kept_of_kept, kept_order_is_free, withdrawn_decides,
 };
 use dd_elem::Uid;
-use dd_vectors::{image, images, in_words, taken, text_of};
+use dd_vectors::{ask_all, catalogue_of, claim_all, image, in_words, taken};
 use std::alloc::Global;
 use std::test::Fail;
 
@@ -23,7 +23,8 @@ fn withdraw(alloc: Global, catalogue: &mut Catalogue, uid: &str) -> Result<Strin
 }
 
 /// Takes a version whose instance is withdrawn.
-fn take(alloc: Global, catalogue: &mut Catalogue, letter: char) -> Result<String, Fail> {
+fn take(alloc: Global, catalogue: &mut Catalogue, letter: &str) -> Result<String, Fail> {
+    let letter = letter.chars().next().ok_or("no letter")?;
     match catalogue.take(image(alloc, letter)?) {
         Ok(Took::Withdrawn(given)) => {
             let given = in_words(alloc, &given)?;
@@ -33,99 +34,48 @@ fn take(alloc: Global, catalogue: &mut Catalogue, letter: char) -> Result<String
     }
 }
 
-/// The catalogue that withdrew this instance.
-fn without(alloc: Global, uid: &str) -> Result<Catalogue, Fail> {
-    let mut catalogue = Catalogue::new(alloc);
-    withdraw(alloc, &mut catalogue, uid)?;
-    Ok(catalogue)
+/// Calls on a catalogue, and what each answers: `/` withdraws an instance, and a letter is taken. Then how many
+/// versions and how many withdrawn instances the catalogue has.
+const CALLS: &str = "\
+1 /1.2.3.4.6 > New none, 1 1
+1 /1.2.3.4.5 /1.2.3.4.5 1 > New 170 ' 1.2.3.4.5, Already, Withdrawn 170 ' 1.2.3.4.5, 0 1";
+
+/// Makes the catalogue of the letter before the calls, and then these.
+fn called(alloc: Global, question: &str) -> Result<String, Fail> {
+    let (letter, calls) = question.split_once(' ').ok_or("no calls")?;
+    let mut catalogue = taken(alloc, letter)?;
+    let mut text = String::new(alloc);
+    for call in calls.split(' ') {
+        let answer = match call.strip_prefix('/') {
+            Some(uid) => withdraw(alloc, &mut catalogue, uid)?,
+            None => take(alloc, &mut catalogue, call)?,
+        };
+        text.push_str(answer.as_str())?;
+        text.push_str(", ")?;
+    }
+    let (held, gone) = (catalogue.len(), catalogue.withdrawn().len());
+    Ok(format!(in alloc; "{text}{held} {gone}")?)
 }
 
-#[test]
-fn an_instance_that_is_not_there_is_withdrawn(rt: HostRuntime) -> Result<(), Fail> {
-    let mut catalogue = taken(rt.alloc(), "1")?;
-    let text = withdraw(rt.alloc(), &mut catalogue, "1.2.3.4.6")?;
-    assert_eq!(rt; text.as_str(), "New none");
-    assert_eq!(rt; (catalogue.len(), catalogue.withdrawn().len()), (1, 1));
-    Ok(())
+/// Two catalogues, and what their merge is equal to. What stands after a `/` is withdrawn.
+const MERGES: &str = "\
+1+/1.2.3.4.5=1/1.2.3.4.5
+/1.2.3.4.5+1=1/1.2.3.4.5
+/1.2.3.4.5+=1/1.2.3.4.5
+12+/1.2.3.4.5=2/1.2.3.4.5";
+
+fn is_equal(alloc: Global, case: &str) -> Result<bool, Fail> {
+    let (sides, whole) = case.split_once('=').ok_or("no whole")?;
+    let (left, right) = sides.split_once('+').ok_or("one catalogue")?;
+    let mut merged = catalogue_of(alloc, left)?;
+    merged.merge(&catalogue_of(alloc, right)?)?;
+    Ok(merged == catalogue_of(alloc, whole)? && merged != Catalogue::new(alloc))
 }
 
 #[test]
 fn what_is_withdrawn_is_not_taken(rt: HostRuntime) -> Result<(), Fail> {
-    let alloc = rt.alloc();
-    let mut catalogue = taken(alloc, "1")?;
-    let uid = "1.2.3.4.5";
-    assert_eq!(rt;
-        withdraw(alloc, &mut catalogue, uid)?.as_str(),
-        "New 170 ' 1.2.3.4.5"
-    );
-    assert_eq!(rt; withdraw(alloc, &mut catalogue, uid)?.as_str(), "Already");
-    assert_eq!(rt;
-        take(alloc, &mut catalogue, '1')?.as_str(),
-        "Withdrawn 170 ' 1.2.3.4.5"
-    );
-    assert_eq!(rt; catalogue.len(), 0);
-    let mut parts = Vec::new(alloc);
-    let mut uids = Vec::new(alloc);
-    uids.push(Uid::new(uid.as_bytes())?)?;
-    parts.push(History::Withdraw(uids))?;
-    parts.push(History::Batch(images(alloc, "1")?))?;
-    assert!(rt; build(alloc, &History::Merge(parts))? == catalogue);
-    let mut one = taken(alloc, "1")?;
-    one.merge(&without(alloc, uid)?)?;
-    assert!(rt; one == catalogue);
-    let mut other = without(alloc, uid)?;
-    other.merge(&taken(alloc, "1")?)?;
-    assert!(rt; other == catalogue);
-    assert!(rt; catalogue != Catalogue::new(alloc));
-    assert!(rt; catalogue.copy()? == catalogue);
-    assert!(rt; catalogue.harmonise()? == catalogue);
-    Ok(())
-}
-
-/// The description of the only version, in harmony.
-fn described(alloc: Global, catalogue: &Catalogue) -> Result<String, Fail> {
-    let harmony = catalogue.harmonise()?;
-    let version = harmony.versions().first().ok_or("no version")?;
-    Ok(text_of(alloc, version.parts().study.description.as_bytes())?)
-}
-
-#[test]
-fn a_published_version_leaves_its_keys(rt: HostRuntime) -> Result<(), Fail> {
-    let alloc = rt.alloc();
-    let mut sources = taken(alloc, "BD")?;
-    let mut published = sources.harmonise()?;
-    sources.merge(&without(alloc, "1.2.3.4.5")?)?;
-    published.merge(&without(alloc, "1.2.3.4.5")?)?;
-    assert_eq!(rt; described(alloc, &sources)?.as_str(), "'A");
-    assert_eq!(rt; described(alloc, &published)?.as_str(), "'B");
-    Ok(())
-}
-
-/// Withdraws these instances in the right catalogue, and merges it into the left one. Answers the count of the
-/// merge, and how many versions are left.
-fn counted(alloc: Global, left: &str, right: &str, gone: &[&str]) -> Result<(u64, usize), Fail> {
-    let mut catalogue = taken(alloc, left)?;
-    let mut other = taken(alloc, right)?;
-    for uid in gone {
-        withdraw(alloc, &mut other, uid)?;
-    }
-    let count = catalogue.merge_counted(&other)?;
-    Ok((count, catalogue.len()))
-}
-
-#[test]
-fn a_merge_with_withdrawals_counts_what_it_compares(rt: HostRuntime) -> Result<(), Fail> {
-    assert_eq!(rt; counted(rt.alloc(), "1234", "1234", &[])?, (4, 4));
-    assert_eq!(rt; counted(rt.alloc(), "1234", "", &["1.2.3.4.5"])?, (1, 3));
-    assert_eq!(rt;
-        counted(rt.alloc(), "1234", "", &["1.2.3.4.6", "1.2.9.1.1"])?,
-        (4, 2)
-    );
-    assert_eq!(rt;
-        counted(rt.alloc(), "1234", "", &["1.1", "1.2.3.4.6", "1.3"])?,
-        (5, 3)
-    );
-    Ok(())
+    ask_all(rt.alloc(), CALLS, called)?;
+    claim_all(rt.alloc(), MERGES, '\n', is_equal)
 }
 
 /// The laws are proved.

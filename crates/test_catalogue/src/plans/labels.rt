@@ -47,12 +47,9 @@ fn size_under(alloc: Global, question: &str) -> Result<String, Fail> {
 
 #[test]
 fn a_plan_under_another_label_keeps_to_its_limits(rt: HostRuntime) -> Result<(), Fail> {
-    ask_all(rt.alloc(), LABELS, size_under)
-}
-
-#[test]
-fn records_are_moved_by_another_label(rt: HostRuntime) -> Result<(), Fail> {
+    ask_all(rt.alloc(), LABELS, size_under)?;
     let plan = planned(rt.alloc(), "1234", "DISC1", widest()?)??;
+    assert!(rt; *plan.label() == label_of("DISC1")?);
     let label = label_of("")?;
     let plan = plan.under(&label, widest()?)?;
     require_plan(rt.alloc(), "1234", &plan)?;

@@ -38,19 +38,6 @@ Study > 42 TooMany Study
 Series > 42 TooMany Series
 Image > 42 TooMany Image";
 
-/// The size of the plan, or why there is no plan.
-fn size(
-    alloc: Global,
-    limits: Limits,
-    letters: &str,
-    id: &str,
-) -> Result<Result<u32, PlanFault>, Fail> {
-    match planned(alloc, letters, id, limits)? {
-        Ok(plan) => Ok(Ok(plan.size())),
-        Err(fault) => Ok(Err(fault)),
-    }
-}
-
 fn limited(alloc: Global, question: &str) -> Result<String, Fail> {
     let mut words = question.split(' ');
     let bytes = words.next().ok_or("no bytes")?.parse()?;
@@ -60,15 +47,13 @@ fn limited(alloc: Global, question: &str) -> Result<String, Fail> {
     let Some(limits) = Limits::new(bytes, per_level) else {
         return Ok(String::from_str(alloc, "no limits")?);
     };
-    match size(alloc, limits, letters, id)? {
-        Ok(size) => Ok(format!(in alloc; "{size}")?),
+    match planned(alloc, letters, id, limits)? {
+        Ok(plan) => {
+            let size = plan.size();
+            Ok(format!(in alloc; "{size}")?)
+        }
         Err(fault) => Ok(format!(in alloc; "{fault}")?),
     }
-}
-
-#[test]
-fn a_plan_keeps_to_its_limits(rt: HostRuntime) -> Result<(), Fail> {
-    ask_all(rt.alloc(), LIMITS, limited)
 }
 
 /// The level with this name.
@@ -89,12 +74,9 @@ fn too_many(alloc: Global, question: &str) -> Result<String, Fail> {
 }
 
 #[test]
-fn levels_have_names(rt: HostRuntime) -> Result<(), Fail> {
-    ask_all(rt.alloc(), LEVELS, too_many)
-}
-
-#[test]
-fn want_of_memory_in_words(rt: HostRuntime) -> Result<(), Fail> {
+fn a_plan_keeps_to_its_limits(rt: HostRuntime) -> Result<(), Fail> {
+    ask_all(rt.alloc(), LIMITS, limited)?;
+    ask_all(rt.alloc(), LEVELS, too_many)?;
     let text = format!(in rt.alloc(); "{}", PlanFault::Memory)?;
     assert_eq!(rt; text.as_str(), "91 Memory");
     Ok(())

@@ -33,14 +33,6 @@ pub(crate) fn plan(alloc: Global, letters: &str) -> Result<Plan, Fail> {
 }
 
 #[test]
-fn a_plan_keeps_its_label(rt: HostRuntime) -> Result<(), Fail> {
-    let limits = Limits::new(u32::MAX, FileId::MAX_RANK).ok_or("no limits")?;
-    let plan = planned(rt.alloc(), "1", "DISC1", limits)??;
-    assert!(rt; *plan.label() == label_of("DISC1")?);
-    Ok(())
-}
-
-#[test]
 fn harmony_is_laid_out_as_its_catalogue(rt: HostRuntime) -> Result<(), Fail> {
     let limits = Limits::new(u32::MAX, FileId::MAX_RANK).ok_or("no limits")?;
     let label = label_of("DISC1")?;

@@ -1,9 +1,9 @@
 //! Where the records of plans stand, what they name, and the versions that they are of.
 
+use crate::catalogue::studies::push_study;
 use crate::plans::plans::plan;
 use dd_layout::{Plan, PlanRecord};
-use dd_vectors::{ask_all, text_of};
-use dd_version::Version;
+use dd_vectors::ask_all;
 use std::alloc::Global;
 use std::test::Fail;
 
@@ -95,11 +95,6 @@ fn push_record(alloc: Global, text: &mut String, record: &PlanRecord) -> Result<
     Ok(())
 }
 
-/// The images and the records of their plan.
-fn records(alloc: Global, letters: &str) -> Result<String, Fail> {
-    lines(alloc, letters, &plan(alloc, letters)?)
-}
-
 /// The images and the records of this plan.
 pub(crate) fn lines(alloc: Global, letters: &str, plan: &Plan) -> Result<String, Fail> {
     let mut text = String::from_str(alloc, letters)?;
@@ -109,43 +104,21 @@ pub(crate) fn lines(alloc: Global, letters: &str, plan: &Plan) -> Result<String,
     Ok(text)
 }
 
-#[test]
-fn records_stand_depth_first(rt: HostRuntime) -> Result<(), Fail> {
-    for case in PLANS.split("\n\n") {
-        let letters = case.split('\n').next().unwrap_or("");
-        assert_eq!(rt; records(rt.alloc(), letters)?.as_str(), case);
-    }
-    Ok(())
-}
-
-#[test]
-fn nothing_has_no_records(rt: HostRuntime) -> Result<(), Fail> {
-    let plan = plan(rt.alloc(), "")?;
-    assert!(rt; plan.records().is_empty() && plan.versions().is_empty());
-    Ok(())
-}
-
-/// Puts the instance, and the time and the description of its study, after the text.
-fn push_version(alloc: Global, text: &mut String, version: &Version) -> Result<(), Fail> {
-    let parts = version.parts();
-    let comma = if text.is_empty() { "" } else { ", " };
-    let time = str::from_utf8(parts.study.time.as_bytes())?;
-    let description = text_of(alloc, parts.study.description.as_bytes())?;
-    let instance = parts.instance;
-    text.push_str(format!(in alloc; "{comma}{instance} {time} {description}")?.as_str())?;
-    Ok(())
-}
-
 fn versions(alloc: Global, question: &str) -> Result<String, Fail> {
     let plan = plan(alloc, question)?;
     let mut text = String::new(alloc);
     for version in plan.versions() {
-        push_version(alloc, &mut text, version)?;
+        push_study(alloc, &mut text, version.parts())?;
     }
     Ok(text)
 }
 
 #[test]
-fn versions_are_in_harmony(rt: HostRuntime) -> Result<(), Fail> {
+fn records_stand_depth_first(rt: HostRuntime) -> Result<(), Fail> {
+    for case in PLANS.split("\n\n") {
+        let letters = case.split('\n').next().unwrap_or("");
+        let plan = plan(rt.alloc(), letters)?;
+        assert_eq!(rt; lines(rt.alloc(), letters, &plan)?.as_str(), case);
+    }
     ask_all(rt.alloc(), VERSIONS, versions)
 }

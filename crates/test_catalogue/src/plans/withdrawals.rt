@@ -56,11 +56,6 @@ fn size(alloc: Global, question: &str) -> Result<String, Fail> {
     }
 }
 
-#[test]
-fn withdrawn_instances_take_bytes(rt: HostRuntime) -> Result<(), Fail> {
-    ask_all(rt.alloc(), SIZES, size)
-}
-
 fn uids(alloc: Global, question: &str) -> Result<String, Fail> {
     let plan = planned(alloc, question, u32::MAX)??;
     let mut text = String::new(alloc);
@@ -76,5 +71,6 @@ fn uids(alloc: Global, question: &str) -> Result<String, Fail> {
 
 #[test]
 fn a_plan_names_what_is_withdrawn(rt: HostRuntime) -> Result<(), Fail> {
+    ask_all(rt.alloc(), SIZES, size)?;
     ask_all(rt.alloc(), UIDS, uids)
 }
