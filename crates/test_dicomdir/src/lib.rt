@@ -1,8 +1,6 @@
-//! Tests of the program `dicomdir`: of its parts, of its runs over files in memory, of power cuts, and of merges.
+//! Tests of the program `dicomdir`: of its parts, of its runs over files in memory, and of merges.
 #![tactic(auto)]
 
-#[cfg(test)]
-mod cuts;
 #[cfg(test)]
 mod merges;
 #[cfg(test)]

@@ -5,37 +5,10 @@ use crate::merges::directories::{directories, label, slices, widest};
 use crate::merges::picks::in_words;
 use crate::merges::withdrawals::uids_of;
 use dd_elem::{SetId, Uid};
-use dd_vectors::{allocation_numbers, refuse_allocation, require, was_refused};
+use dd_vectors::{refuse_allocation, refuse_each, require, was_refused};
 use dicomdir::{Choice, MergeFault, Merged, Pick, first_saying, merge_engine, withdraw_engine};
 use std::alloc::Global;
 use std::test::Fail;
-
-#[derive(Clone, Copy)]
-enum Call {
-    Derived,
-    First,
-    Named,
-    Withdraw,
-}
-
-/// Says whether the chosen allocation of the call was refused.
-fn is_refused(alloc: Global, call: Call, chosen: u32) -> Result<bool, Fail> {
-    match call {
-        Call::Derived => merge_refused(alloc, None, chosen),
-        Call::First => first_refused(alloc, chosen),
-        Call::Named => merge_refused(alloc, Some(label()?.uid), chosen),
-        Call::Withdraw => withdraw_refused(alloc, chosen),
-    }
-}
-
-fn refuse_each(alloc: Global, call: Call) -> Result<(), Fail> {
-    for chosen in allocation_numbers() {
-        if !is_refused(alloc, call, chosen)? {
-            return Ok(());
-        }
-    }
-    Err("the call has more allocations than are refused".into())
-}
 
 /// The directories that are merged: another withdraws one of the first's images.
 const SETS: &str = "12 34 1234/1.2.3.4.6";
@@ -74,12 +47,13 @@ fn merge_refused(alloc: Global, uid: Option<Uid>, chosen: u32) -> Result<bool, F
 
 #[test]
 fn allocations_of_merge_engine(rt: HostRuntime) -> Result<(), Fail> {
-    refuse_each(rt.alloc(), Call::Named)
-}
-
-#[test]
-fn allocations_of_merge_engine_with_a_derived_uid(rt: HostRuntime) -> Result<(), Fail> {
-    refuse_each(rt.alloc(), Call::Derived)
+    for uid in [Some(label()?.uid), None] {
+        refuse_each(
+            rt.alloc(),
+            |alloc, chosen| merge_refused(alloc, uid, chosen),
+        )?;
+    }
+    Ok(())
 }
 
 /// The size of the directory of one image of two, of which the other is withdrawn, and the File ID that the image had.
@@ -109,7 +83,7 @@ fn withdraw_refused(alloc: Global, chosen: u32) -> Result<bool, Fail> {
 
 #[test]
 fn allocations_of_withdraw_engine(rt: HostRuntime) -> Result<(), Fail> {
-    refuse_each(rt.alloc(), Call::Withdraw)
+    refuse_each(rt.alloc(), withdraw_refused)
 }
 
 fn require_third(found: Option<Pick<'_>>) -> Result<(), Fail> {
@@ -138,5 +112,5 @@ fn first_refused(alloc: Global, chosen: u32) -> Result<bool, Fail> {
 
 #[test]
 fn allocations_of_first_saying(rt: HostRuntime) -> Result<(), Fail> {
-    refuse_each(rt.alloc(), Call::First)
+    refuse_each(rt.alloc(), first_refused)
 }

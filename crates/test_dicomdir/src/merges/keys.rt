@@ -1,9 +1,8 @@
 //! The keys that images have after a merge of catalogues, and after one of their directories.
 
 use crate::merges::directories::{directories, label, slices, widest};
-use dd_dir::write_directory;
 use dd_layout::{Label, lay_out};
-use dd_vectors::{Sink, ask_all, catalogue_of, in_words};
+use dd_vectors::{ask_all, catalogue_of, in_words};
 use dd_version::Version;
 use dicomdir::{Choice, merge_engine};
 use std::alloc::Global;
@@ -42,59 +41,25 @@ fn all_told(alloc: Global, versions: &[Version]) -> Result<String, Fail> {
     Ok(text)
 }
 
-fn joined(alloc: Global, one: &str, other: &str) -> Result<String, Fail> {
+fn joined(alloc: Global, question: &str) -> Result<String, Fail> {
+    let (one, other) = question.split_once(' ').ok_or("no other")?;
     let mut catalogue = catalogue_of(alloc, one)?;
     catalogue.merge(&catalogue_of(alloc, other)?)?;
     let plan = lay_out(alloc, &catalogue, &label()?, widest()?)?;
     all_told(alloc, plan.versions())
 }
 
-fn catalogues(alloc: Global, question: &str) -> Result<String, Fail> {
-    let (one, other) = question.split_once(' ').ok_or("no other")?;
-    joined(alloc, one, other)
-}
-
-#[test]
-fn catalogues_are_joined_before_studies_agree(rt: HostRuntime) -> Result<(), Fail> {
-    ask_all(rt.alloc(), CATALOGUES, catalogues)
-}
-
-fn merged(alloc: Global, sets: &[Vec<u8>]) -> Result<String, Fail> {
-    let sets = slices(alloc, sets)?;
+fn merged(alloc: Global, question: &str) -> Result<String, Fail> {
+    let sets = directories(alloc, question)?;
+    let sets = slices(alloc, &sets)?;
     let Label { id, uid } = label()?;
     let uid = Some(uid);
     let merged = merge_engine(alloc, &sets, &Choice { id, uid }, widest()?)?;
     all_told(alloc, merged.plan.versions())
 }
 
-fn read_back(alloc: Global, question: &str) -> Result<String, Fail> {
-    let sets = directories(alloc, question)?;
-    merged(alloc, &sets)
-}
-
 #[test]
-fn directories_are_merged_as_they_are_written(rt: HostRuntime) -> Result<(), Fail> {
-    ask_all(rt.alloc(), DIRECTORIES, read_back)
-}
-
-const ALONE: &str = "empty first 1 12 1234 AC xy 1/1.2.3.4.6 /1.2.3.4.5/1.2.3.4.6";
-
-/// Says whether a merge of this directory alone writes it again.
-fn is_written_again(alloc: Global, name: &str) -> Result<bool, Fail> {
-    let sets = directories(alloc, name)?;
-    let sets = slices(alloc, &sets)?;
-    let Label { id, uid } = label()?;
-    let uid = Some(uid);
-    let merged = merge_engine(alloc, &sets, &Choice { id, uid }, widest()?)?;
-    let mut sink = Sink::new(alloc, None);
-    write_directory(&merged.plan, &mut sink)?;
-    Ok(sets.first() == Some(&sink.bytes()))
-}
-
-#[test]
-fn a_directory_alone_is_written_again(rt: HostRuntime) -> Result<(), Fail> {
-    for name in ALONE.split(' ') {
-        assert!(rt; is_written_again(rt.alloc(), name)?, "of {name}");
-    }
-    Ok(())
+fn studies_agree_after_the_join(rt: HostRuntime) -> Result<(), Fail> {
+    ask_all(rt.alloc(), CATALOGUES, joined)?;
+    ask_all(rt.alloc(), DIRECTORIES, merged)
 }

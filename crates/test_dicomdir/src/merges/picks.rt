@@ -57,27 +57,18 @@ pub(crate) fn refused(alloc: Global, fault: MergeFault) -> Result<String, Fail> 
     })
 }
 
-fn merged(alloc: Global, limits: Limits, sets: &[Vec<u8>]) -> Result<String, Fail> {
-    let sets = slices(alloc, sets)?;
+fn picked(alloc: Global, question: &str) -> Result<String, Fail> {
+    let (bytes, rest) = question.split_once(' ').ok_or("no bytes")?;
+    let (per_level, words) = rest.split_once(' ').ok_or("no count")?;
+    let limits = Limits::new(bytes.parse()?, per_level.parse()?).ok_or("no limits")?;
+    let sets = directories(alloc, words)?;
+    let sets = slices(alloc, &sets)?;
     let Label { id, uid } = label()?;
     let uid = Some(uid);
     match merge_engine(alloc, &sets, &Choice { id, uid }, limits) {
         Ok(merged) => in_words(alloc, &merged),
         Err(fault) => refused(alloc, fault),
     }
-}
-
-fn picked(alloc: Global, question: &str) -> Result<String, Fail> {
-    let (bytes, rest) = question.split_once(' ').ok_or("no bytes")?;
-    let (per_level, words) = rest.split_once(' ').ok_or("no count")?;
-    let limits = Limits::new(bytes.parse()?, per_level.parse()?).ok_or("no limits")?;
-    let sets = directories(alloc, words)?;
-    merged(alloc, limits, &sets)
-}
-
-#[test]
-fn files_are_picked_or_sets_refused(rt: HostRuntime) -> Result<(), Fail> {
-    ask_all(rt.alloc(), PICKS, picked)
 }
 
 /// Directories that are merged, and after the bar others. These are searched for the first record that says of the
@@ -113,6 +104,7 @@ fn first(alloc: Global, question: &str) -> Result<String, Fail> {
 }
 
 #[test]
-fn first_records_that_say_it_are_found(rt: HostRuntime) -> Result<(), Fail> {
+fn files_are_picked_or_sets_refused(rt: HostRuntime) -> Result<(), Fail> {
+    ask_all(rt.alloc(), PICKS, picked)?;
     ask_all(rt.alloc(), FIRSTS, first)
 }

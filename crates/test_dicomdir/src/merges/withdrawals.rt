@@ -32,22 +32,19 @@ pub(crate) fn uids_of(alloc: Global, words: &str) -> Result<Vec<Uid>, Fail> {
     Ok(uids)
 }
 
-fn withdrawn(alloc: Global, limits: Limits, set: &[u8], uids: &[Uid]) -> Result<String, Fail> {
-    let Label { id, uid } = label()?;
-    let uid = Some(uid);
-    match withdraw_engine(alloc, set, uids, &Choice { id, uid }, limits) {
-        Ok(merged) => in_words(alloc, &merged),
-        Err(fault) => refused(alloc, fault),
-    }
-}
-
 fn planned(alloc: Global, question: &str) -> Result<String, Fail> {
     let (bytes, rest) = question.split_once(' ').ok_or("no bytes")?;
     let (name, words) = rest.split_once(' ').ok_or("no instances")?;
     let limits = Limits::new(bytes.parse()?, 2).ok_or("no limits")?;
     let sets = directories(alloc, name)?;
     let set = sets.first().ok_or("no directory")?;
-    withdrawn(alloc, limits, set, &uids_of(alloc, words)?)
+    let uids = uids_of(alloc, words)?;
+    let Label { id, uid } = label()?;
+    let uid = Some(uid);
+    match withdraw_engine(alloc, set, &uids, &Choice { id, uid }, limits) {
+        Ok(merged) => in_words(alloc, &merged),
+        Err(fault) => refused(alloc, fault),
+    }
 }
 
 #[test]

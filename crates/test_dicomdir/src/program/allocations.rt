@@ -1,51 +1,15 @@
 //! Each allocation of each call refused in turn: the call lacks memory, nothing has changed, and made again it answers.
 
 use crate::program::copies::{DIGEST, digest_words};
-use crate::program::engine::index_refused;
 use crate::program::filings::filing_refused;
 use crate::program::lines::said;
 use dd_vectors::{
-    ByteSource, Sink, allocation_numbers, answered, ends_refused, question, refuse_allocation,
-    require, v1, was_refused, words_of,
+    ByteSource, Sink, answered, question, refuse_allocation, refuse_each, require, v1, was_refused,
+    words_of,
 };
 use dicomdir::{Asked, CopyFault, LineFault, copy_image, read_words};
 use std::alloc::Global;
 use std::test::Fail;
-
-/// The calls that can want memory.
-#[derive(Clone, Copy)]
-enum Call {
-    CopyImage,
-    FileImage,
-    IndexEngine,
-    ReadIndex,
-    ReadMerge,
-    ReadWithdraw,
-    ReadMistake,
-}
-
-/// Makes the call with the chosen allocation refused, and answers whether one was.
-fn is_refused(alloc: Global, call: Call, chosen: u32) -> Result<bool, Fail> {
-    match call {
-        Call::CopyImage => copy_image_refused(alloc, chosen),
-        Call::FileImage => filing_refused(alloc, chosen),
-        Call::IndexEngine => index_refused(alloc, chosen),
-        Call::ReadIndex => read_words_refused(alloc, INDEX, chosen),
-        Call::ReadMerge => read_words_refused(alloc, MERGE, chosen),
-        Call::ReadWithdraw => read_words_refused(alloc, WITHDRAW, chosen),
-        Call::ReadMistake => read_mistake_refused(alloc, chosen),
-    }
-}
-
-/// Makes the call with each of its allocations refused in turn.
-fn refuse_each(alloc: Global, call: Call) -> Result<(), Fail> {
-    for chosen in allocation_numbers() {
-        if !is_refused(alloc, call, chosen)? {
-            return Ok(());
-        }
-    }
-    Err("the call has more allocations than are refused".into())
-}
 
 /// Copies V1 to a writer without room. An allocation that is refused is a write that fails: the writer holds a front
 /// of V1 then, and what is copied again comes after it.
@@ -73,33 +37,19 @@ fn copy_image_refused(alloc: Global, chosen: u32) -> Result<bool, Fail> {
 
 #[test]
 fn allocations_of_copy_image(rt: HostRuntime) -> Result<(), Fail> {
-    refuse_each(rt.alloc(), Call::CopyImage)
+    refuse_each(rt.alloc(), copy_image_refused)
 }
 
 #[test]
 fn allocations_of_file_image(rt: HostRuntime) -> Result<(), Fail> {
-    refuse_each(rt.alloc(), Call::FileImage)
+    refuse_each(rt.alloc(), filing_refused)
 }
 
-#[test]
-fn allocations_of_index_engine(rt: HostRuntime) -> Result<(), Fail> {
-    refuse_each(rt.alloc(), Call::IndexEngine)
-}
-
-/// An index, and what its line asks for.
-const INDEX: &str = "\
-dicomdir index --id DISC1 --uid 2.25.1 --max-bytes 1000 set image.dcm > Index DISC1 2.25.1 1000 set image.dcm";
-
-/// A merge, and what its line asks for.
-const MERGE: &str = "\
-dicomdir merge --id DISC1 set b a b --uid 2.25.1 > Merge DISC1 2.25.1 4294967295 set b a b";
-
-/// A withdrawal, and what its line asks for.
-const WITHDRAW: &str = "\
+/// An index, a merge and a withdrawal, and what their lines ask for.
+const LINES: &str = "\
+dicomdir index --id DISC1 --uid 2.25.1 --max-bytes 1000 set image.dcm > Index DISC1 2.25.1 1000 set image.dcm
+dicomdir merge --id DISC1 set b a b --uid 2.25.1 > Merge DISC1 2.25.1 4294967295 set b a b
 dicomdir withdraw --id DISC1 set a 1.2 1.3 > Withdraw DISC1 - 4294967295 set a without 1.2 1.3";
-
-/// A line with an unknown option, its status, and whether its text is for the error output.
-const MISTAKE: &str = "dicomdir index --out set image.dcm > 2 true";
 
 /// Fails where the answer is not the case's.
 fn require_said(alloc: Global, case: &str, answer: &Result<Asked, LineFault>) -> Result<(), Fail> {
@@ -126,41 +76,11 @@ fn read_words_refused(alloc: Global, case: &str, chosen: u32) -> Result<bool, Fa
 
 #[test]
 fn allocations_of_read_words(rt: HostRuntime) -> Result<(), Fail> {
-    refuse_each(rt.alloc(), Call::ReadIndex)
-}
-
-#[test]
-fn allocations_of_read_words_of_a_merge(rt: HostRuntime) -> Result<(), Fail> {
-    refuse_each(rt.alloc(), Call::ReadMerge)
-}
-
-#[test]
-fn allocations_of_read_words_of_a_withdrawal(rt: HostRuntime) -> Result<(), Fail> {
-    refuse_each(rt.alloc(), Call::ReadWithdraw)
-}
-
-/// Reads a line with a mistake. A comparison of words takes less room where it is refused some, so that the mistake
-/// may be found although an allocation was refused.
-fn read_mistake_refused(alloc: Global, chosen: u32) -> Result<bool, Fail> {
-    let words = words_of(alloc, question(MISTAKE))?;
-    refuse_allocation(alloc, chosen)?;
-    let answer = read_words(alloc, words.as_slice());
-    let refused = ends_refused(alloc)?;
-    let wants_memory = matches!(&answer, Err(LineFault::Memory));
-    require(
-        refused || !wants_memory,
-        "memory is wanted only where it is refused",
-    )?;
-    let answer = if wants_memory {
-        read_words(alloc, words.as_slice())
-    } else {
-        answer
-    };
-    require_said(alloc, MISTAKE, &answer)?;
-    Ok(refused)
-}
-
-#[test]
-fn allocations_of_read_words_with_a_mistake(rt: HostRuntime) -> Result<(), Fail> {
-    refuse_each(rt.alloc(), Call::ReadMistake)
+    for case in LINES.split('\n') {
+        refuse_each(
+            rt.alloc(),
+            |alloc, chosen| read_words_refused(alloc, case, chosen),
+        )?;
+    }
+    Ok(())
 }

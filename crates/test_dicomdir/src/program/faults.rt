@@ -3,7 +3,7 @@
 use dd_dir::{DirFault, OwnFault};
 use dd_elem::{BadSetId, BadUid};
 use dd_layout::PlanFault;
-use dicomdir::{CopyFault, EngineFault, MergeFault, ProgramFault};
+use dicomdir::{EngineFault, MergeFault, ProgramFault};
 use std::test::Fail;
 
 const PROGRAM: &str =
@@ -11,12 +11,10 @@ const PROGRAM: &str =
                        72 BadSetId, 91 Memory, 92 Absent, 93 Unread, 94 Create, 95 Folder, \
                        96 Unsent, 97 Changed, 98 Strict";
 
-/// Faults of an index, of a merge and of a copy.
+/// Faults of an index, and of a merge.
 const ENGINE: &str = "43 TooLarge, 91 Memory, 92 Absent, 93 Unread";
 
 const MERGE: &str = "43 TooLarge, 56 LastRoot, 61 NoDigest 646, 65 BadWithdrawal, 91 Memory";
-
-const COPY: &str = "93 Unread, 96 Unsent, 97 Changed";
 
 fn fault_of(words: &str) -> Option<ProgramFault> {
     match words {
@@ -60,15 +58,6 @@ fn merge_fault_of(words: &str) -> Option<MergeFault> {
     }
 }
 
-fn copy_fault_of(words: &str) -> Option<CopyFault> {
-    match words {
-        "93 Unread" => Some(CopyFault::Unread),
-        "96 Unsent" => Some(CopyFault::Unsent),
-        "97 Changed" => Some(CopyFault::Changed),
-        _ => None,
-    }
-}
-
 #[test]
 fn faults_of_the_program_in_words(rt: HostRuntime) -> Result<(), Fail> {
     for words in PROGRAM.split(", ") {
@@ -79,27 +68,13 @@ fn faults_of_the_program_in_words(rt: HostRuntime) -> Result<(), Fail> {
 }
 
 #[test]
-fn faults_of_an_index_in_words(rt: HostRuntime) -> Result<(), Fail> {
+fn faults_of_an_index_and_of_a_merge_in_words(rt: HostRuntime) -> Result<(), Fail> {
     for words in ENGINE.split(", ") {
         let fault = engine_fault_of(words).ok_or("no fault")?;
         assert_eq!(rt; format!(in rt.alloc(); "{fault}")?.as_str(), words);
     }
-    Ok(())
-}
-
-#[test]
-fn faults_of_a_merge_in_words(rt: HostRuntime) -> Result<(), Fail> {
     for words in MERGE.split(", ") {
         let fault = merge_fault_of(words).ok_or("no fault")?;
-        assert_eq!(rt; format!(in rt.alloc(); "{fault}")?.as_str(), words);
-    }
-    Ok(())
-}
-
-#[test]
-fn faults_of_a_copy_in_words(rt: HostRuntime) -> Result<(), Fail> {
-    for words in COPY.split(", ") {
-        let fault = copy_fault_of(words).ok_or("no fault")?;
         assert_eq!(rt; format!(in rt.alloc(); "{fault}")?.as_str(), words);
     }
     Ok(())

@@ -253,20 +253,20 @@ fn in_words(alloc: Global, asked: &Asked) -> Result<String, Fail> {
 }
 
 fn push_flags(text: &mut String, asked: &Asked) -> Result<(), Fail> {
-    push_flag(text, asked.keys, " with keys")?;
-    push_flag(text, asked.strict, " with strict")?;
-    push_flag(text, asked.dry_run, " with dry-run")?;
-    push_flag(text, asked.quiet, " with quiet")?;
-    push_flag(text, asked.verbose, " with verbose")?;
-    push_flag(text, asked.long, " with long")?;
-    push_flag(text, asked.link, " with link")?;
-    push_flag(text, asked.keep_going, " with keep-going")?;
-    push_flag(text, asked.json, " with json")
-}
-
-fn push_flag(text: &mut String, is_set: bool, words: &str) -> Result<(), Fail> {
-    if is_set {
-        text.push_str(words)?;
+    for (is_set, words) in [
+        (asked.keys, " with keys"),
+        (asked.strict, " with strict"),
+        (asked.dry_run, " with dry-run"),
+        (asked.quiet, " with quiet"),
+        (asked.verbose, " with verbose"),
+        (asked.long, " with long"),
+        (asked.link, " with link"),
+        (asked.keep_going, " with keep-going"),
+        (asked.json, " with json"),
+    ] {
+        if is_set {
+            text.push_str(words)?;
+        }
     }
     Ok(())
 }
@@ -295,11 +295,7 @@ fn line(alloc: Global, question: &str) -> Result<String, Fail> {
 
 #[test]
 fn lines_are_taken_or_refused(rt: HostRuntime) -> Result<(), Fail> {
-    ask_all(rt.alloc(), LINES, line)
-}
-
-#[test]
-fn no_words_ask_for_nothing(rt: HostRuntime) {
     let none: [String; 0] = [];
     assert!(rt; read_words(rt.alloc(), &none).is_err());
+    ask_all(rt.alloc(), LINES, line)
 }

@@ -1,9 +1,7 @@
-//! Tests of the parts of the program `dicomdir`: its command line, what it prints, and its engine.
+//! Tests of the parts of the program `dicomdir`: its command line, what it prints, and what it copies.
 
 mod allocations;
 mod copies;
-mod digests;
-mod engine;
 mod faults;
 mod filings;
 mod findings;

@@ -22,11 +22,6 @@ fn printed(alloc: Global, question: &str) -> Result<String, Fail> {
     Ok(format!(in alloc; "{first} {more} [{held}]")?)
 }
 
-#[test]
-fn lines_are_printed_as_far_as_they_go(rt: HostRuntime) -> Result<(), Fail> {
-    ask_all(rt.alloc(), PRINTED, printed)
-}
-
 /// A line of 5,000, 5,000 and 9,000 characters is printed to a device. Each case has after how many bytes it fails,
 /// whether the line was printed, and how many of its bytes the device holds. The buffer has room for the first or the
 /// second, but not for both, nor for the third.
@@ -62,7 +57,10 @@ fn printed_long(alloc: Global, question: &str) -> Result<String, Fail> {
 }
 
 #[test]
-fn long_lines_are_printed_as_far_as_they_go(rt: HostRuntime) -> Result<(), Fail> {
+fn lines_are_printed_as_far_as_they_go(rt: HostRuntime) -> Result<(), Fail> {
+    let mut sink = Sink::new(rt.alloc(), Some(0));
+    assert!(rt; send_text("", &mut sink).is_ok() && send_text("x", &mut sink).is_err());
+    ask_all(rt.alloc(), PRINTED, printed)?;
     ask_all(rt.alloc(), LONG, printed_long)
 }
 
@@ -95,10 +93,4 @@ fn masked(alloc: Global, question: &str) -> Result<String, Fail> {
 #[test]
 fn control_characters_print_as_question_marks(rt: HostRuntime) -> Result<(), Fail> {
     ask_all(rt.alloc(), MASKED, masked)
-}
-
-#[test]
-fn an_empty_text_does_not_fail(rt: HostRuntime) {
-    let mut sink = Sink::new(rt.alloc(), Some(0));
-    assert!(rt; send_text("", &mut sink).is_ok() && send_text("x", &mut sink).is_err());
 }

@@ -59,11 +59,6 @@ d/DICOMDIR=first: 9 - dicomdir check d > 1 [MISSING P] [] kept
 d/DICOMDIR=note.txt: 9 - dicomdir check d > 1 [BROKEN 51] [] kept
 d/DICOMDIR=first: - 0 dicomdir check d > 3 [MISSING PT000001\\ST000001\\SE000001\\IM000001|] [] kept";
 
-#[test]
-fn sets_are_checked(rt: HostRuntime) -> Result<(), Fail> {
-    ask_all(rt.alloc(), CHECKS, ran)
-}
-
 /// File-sets of five images in one series, of which the second and the fifth are damaged. All others are as they were;
 /// the third is missing; the output fails in the first finding; or the records have another Patient ID. The findings
 /// stand in the order of the records.
@@ -103,7 +98,8 @@ DIFFERS PT000001\\ST000001\\SE000001\\IM000005 54e3719a4bddbaaed417222b3d8d2de44
 453361fd925712bb2f4ef496dfa3480f0d7a1e22fc15dc69e72aeb8086c135ce|] [] kept";
 
 #[test]
-fn findings_stand_in_the_order_of_the_records(rt: HostRuntime) -> Result<(), Fail> {
+fn sets_are_checked_in_the_order_of_their_records(rt: HostRuntime) -> Result<(), Fail> {
+    ask_all(rt.alloc(), CHECKS, ran)?;
     ask_all(rt.alloc(), FIVE, ran)
 }
 
@@ -192,11 +188,6 @@ MISLABELLED PT000001\\ST000001\\SE000001\\IM000002 (0010,0020)|] [] kept
 d/DICOMDIR=note.txt: - - dicomdir check --keys d > 3 [BROKEN 51 File 21 NotPart10|] [] kept
 d=set d/DICOMDIR=first,402,'P9: 13 - dicomdir check --keys d > 1 [MISLABELLED P] [] kept";
 
-#[test]
-fn files_are_compared_with_their_records(rt: HostRuntime) -> Result<(), Fail> {
-    ask_all(rt.alloc(), KEYS, ran)
-}
-
 /// Runs `check --strict` on file-sets whose records have digests, on some of another program, and on one whose digest
 /// is of another creator. The other program's image is in use where the flag at 674 says so. An image that was cut has
 /// no other finding but with `--keys`.
@@ -232,6 +223,7 @@ d=set d/PT000001/ST000001/SE000001/IM000001=e.dcm: - - dicomdir check --strict d
 d/DICOMDIR=note.txt: - - dicomdir check --strict d > 3 [BROKEN 51 File 21 NotPart10|] [] kept";
 
 #[test]
-fn files_without_digests_are_found(rt: HostRuntime) -> Result<(), Fail> {
+fn files_are_compared_and_those_without_digests_found(rt: HostRuntime) -> Result<(), Fail> {
+    ask_all(rt.alloc(), KEYS, ran)?;
     ask_all(rt.alloc(), STRICT, ran)
 }

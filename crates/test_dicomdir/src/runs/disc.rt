@@ -57,12 +57,6 @@ fn put_lists(files: &mut MemFiles) -> Result<(), Fail> {
     Ok(())
 }
 
-pub(crate) fn disc_with(alloc: Global, words: &str) -> Result<MemFiles, Fail> {
-    let mut files = disc(alloc)?;
-    put_files(alloc, &mut files, words)?;
-    Ok(files)
-}
-
 /// Puts more files by words. `path=name` takes the bytes of a file that is there, or of a directory: `first` has V1
 /// alone, `empty` nothing, `v3` is another tool's, and `deep` has 33 levels. A `,` stands before each offset and each
 /// word of bytes that are put there. `folder=set` puts the directory that has V1 alone, and V1.

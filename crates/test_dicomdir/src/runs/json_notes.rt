@@ -62,11 +62,6 @@ fn ran_unquoted(alloc: Global, question: &str) -> Result<String, Fail> {
     unquoted(alloc, &ran(alloc, question)?)
 }
 
-#[test]
-fn notes_are_objects(rt: HostRuntime) -> Result<(), Fail> {
-    ask_all(rt.alloc(), NOTES, ran_unquoted)
-}
-
 /// The number of the last image of an index, and what the index prints: ten names at most. Each image has a number from
 /// 10 on, which its UID and its name end with.
 const NAMES: &str = "\
@@ -97,6 +92,7 @@ fn named(alloc: Global, question: &str) -> Result<String, Fail> {
 }
 
 #[test]
-fn ten_names_are_shown(rt: HostRuntime) -> Result<(), Fail> {
+fn notes_are_objects_and_show_ten_names(rt: HostRuntime) -> Result<(), Fail> {
+    ask_all(rt.alloc(), NOTES, ran_unquoted)?;
     ask_all(rt.alloc(), NAMES, named)
 }

@@ -100,11 +100,6 @@ d1=set: 0 - dicomdir merge o d1 --uid 2.25.0 --dry-run > 1 [] [] kept
 d1=set: 0 - dicomdir merge o d1 --uid 2.25.0 > 1 [] [] changed
 d1=set: - 0 dicomdir merge o d1 --uid 2.25.0 --max-bytes 0 > 1 [] [] kept";
 
-#[test]
-fn merges_say_how_they_ended(rt: HostRuntime) -> Result<(), Fail> {
-    ask_all(rt.alloc(), MERGES, ran)
-}
-
 /// Cases of `ran` with notes: names of two sets that share an image, records that are not reached, images that a set
 /// withdraws, and all of these in their order. A refusal of the plan is not noted.
 const NOTED: &str = "\
@@ -149,7 +144,8 @@ NOTE d3/PT000001/ST000001/SE000001/IM000001: withdrawn in d5: 1.2.3.4.8|\
 NOTE -: Patient ID P1 has 2 names: DOE^JUDY, DOE^JOHN|] [FAULT -: 98 Strict|] kept";
 
 #[test]
-fn merges_say_what_is_noted(rt: HostRuntime) -> Result<(), Fail> {
+fn merges_say_how_they_ended(rt: HostRuntime) -> Result<(), Fail> {
+    ask_all(rt.alloc(), MERGES, ran)?;
     ask_all(rt.alloc(), NOTED, ran)
 }
 

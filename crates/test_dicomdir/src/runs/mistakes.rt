@@ -13,14 +13,9 @@ const MISTAKE_END: &str = "2 [] [error: unexpected argument '?[2J??b\u{c3}\u{a9}
 Usage: dicomdir list [OPTIONS] <SET>||For more information, try '--help'.|]";
 
 #[test]
-fn a_mistake_shows_no_control_character(rt: HostRuntime) -> Result<(), Fail> {
+fn mistakes_and_help_show_no_control_character(rt: HostRuntime) -> Result<(), Fail> {
     let end = end_of(rt.alloc(), MISTAKE, &mut disc(rt.alloc())?)?;
     assert_eq!(rt; end.as_str(), MISTAKE_END);
-    Ok(())
-}
-
-#[test]
-fn help_shows_no_control_character(rt: HostRuntime) -> Result<(), Fail> {
     let line = "- - dicom\n\u{7f}dir list --help";
     let end = end_of(rt.alloc(), line, &mut disc(rt.alloc())?)?;
     let usage = "||Usage: dicom??dir list [OPTIONS] <SET>||";

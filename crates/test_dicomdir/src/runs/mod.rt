@@ -1,10 +1,8 @@
 mod allocations;
 mod checks;
-mod definitions;
 mod devices;
 pub(crate) mod disc;
 mod hints;
-mod images;
 mod json;
 mod json_notes;
 mod lists;

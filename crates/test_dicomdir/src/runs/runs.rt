@@ -1,4 +1,5 @@
-use crate::runs::disc::{FIRST_IMAGE, are_equal, disc, disc_with};
+use crate::runs::disc::{are_equal, disc};
+use crate::runs::scripts::{leave_the_same, ran};
 use dd_mem_files::MemFiles;
 use dd_vectors::{Sink, ask_all, claim_all, failing, push_lines, words_of};
 use dicomdir::run;
@@ -145,40 +146,16 @@ NOTE -: Patient ID P1 has 3 names: DOE^J?RG, DOE^JUDY, DOE^JOHN|] [FAULT -: 98 S
 - - dicomdir index out '' --files0-from nowhere > 1 [] [FAULT : 92 Absent|] kept
 - - dicomdir index out --files0-from gap --uid 2.25.x > 2 [] [FAULT -: 71 BadUid|] kept
 - - dicomdir --version > 0 [dicomdir 1.1.0, form 1|] [] kept
+0 - dicomdir --help > 1 [] [] kept
+- 0 dicomdir burn out a.dcm --uid 2.25.0 > 2 [] [] kept
 - 6 dicomdir index out none.dcm --uid 2.25.0 > 1 [] [FAULT ] kept
 - 0 dicomdir index out none.dcm --uid 2.25.x > 2 [] [] kept";
 
-/// Lines at fault or that ask for help, the status, and which output the parser's text went to.
-const TEXTS: &str = "\
-- - dicomdir > 2 to the error output
-- - dicomdir index --uid 2.25.0 a.dcm > 2 to the error output
-- - dicomdir index --uid 2.25.0 out > 2 to the error output
-- - dicomdir index out a.dcm --uid > 2 to the error output
-- - dicomdir index out a.dcm --uid 2.25.0 --max-bytes 4294967296 > 2 to the error output
-- - dicomdir index --strict out a.dcm --strict > 2 to the error output
-- - dicomdir burn out a.dcm --uid 2.25.0 > 2 to the error output
-- - dicomdir merge out > 2 to the error output
-- - dicomdir withdraw out full > 2 to the error output
-- - dicomdir merge out full --max-bytes 4294967296 > 2 to the error output
-- - dicomdir withdraw --files0-from two out full 1.2 > 2 to the error output
-- - dicomdir withdraw --link out full 1.2 > 2 to the error output
-- - dicomdir index --link out a.dcm > 2 to the error output
-- - dicomdir check --dry-run full > 2 to the error output
-- - dicomdir check > 2 to the error output
-- - dicomdir list full full > 2 to the error output
-- - dicomdir list --keys full > 2 to the error output
-- - dicomdir list --quiet full > 2 to the error output
-0 - dicomdir burn out a.dcm --uid 2.25.0 > 2 to the error output
-- 0 dicomdir burn out a.dcm --uid 2.25.0 > 2 to none
-- - dicomdir --help > 0 to the output
-- - dicomdir help index > 0 to the output
-- - dicomdir merge --help > 0 to the output
-- - dicomdir withdraw --help > 0 to the output
-- - dicomdir check --help > 0 to the output
-- - dicomdir help list > 0 to the output
-- 0 dicomdir index -h > 0 to the output
-0 - dicomdir --help > 1 to none
-9 - dicomdir --help > 1 to the output";
+/// Cases of `ran`, of a source that changes at its second opening to what another file has.
+const CHANGED: &str = "\
+later a.dcm=c.dcm: - - dicomdir index out a.dcm --uid 2.25.0 > 1 [] [FAULT a.dcm: 97 Changed|] changed
+later a.dcm=note.txt: - - dicomdir index out a.dcm --uid 2.25.0 > 1 [] [FAULT a.dcm: 97 Changed|] changed
+later a.dcm=a.dcm: - - dicomdir index out a.dcm --uid 2.25.0 > 0 [DONE 1 instances, 876 bytes|] [] changed";
 
 /// Runs a line whose first two words say after how many bytes the output and the error output fail. Gives the status
 /// and what both hold.
@@ -200,156 +177,41 @@ fn in_words(alloc: Global, status: u8, out: &Sink, err: &Sink) -> Result<String,
     Ok(text)
 }
 
-/// Says how a run ends, and whether all files are as they were.
-fn ended(alloc: Global, line: &str) -> Result<(String, bool), Fail> {
-    let mut files = disc(alloc)?;
-    let end = end_of(alloc, line, &mut files)?;
-    Ok((end, are_equal(alloc, &files, &disc(alloc)?)?))
-}
-
+/// Gives the end of a run, and says whether all files are as they were.
 fn end(alloc: Global, question: &str) -> Result<String, Fail> {
-    let (end, are_kept) = ended(alloc, question)?;
-    let files = if are_kept { "kept" } else { "changed" };
-    Ok(format!(in alloc; "{end} {files}")?)
+    let mut files = disc(alloc)?;
+    let end = end_of(alloc, question, &mut files)?;
+    let are_kept = are_equal(alloc, &files, &disc(alloc)?)?;
+    let kept = if are_kept { "kept" } else { "changed" };
+    Ok(format!(in alloc; "{end} {kept}")?)
 }
 
 #[test]
 fn runs_say_how_they_ended(rt: HostRuntime) -> Result<(), Fail> {
-    ask_all(rt.alloc(), RUNS, end)
+    ask_all(rt.alloc(), RUNS, end)?;
+    ask_all(rt.alloc(), CHANGED, ran)
 }
 
-fn place_of(outputs: &str) -> &'static str {
-    match (outputs.starts_with(']'), outputs.ends_with("[]")) {
-        (true, true) => "none",
-        (false, true) => "the output",
-        (true, false) => "the error output",
-        (false, false) => "both",
-    }
-}
-
-fn text(alloc: Global, question: &str) -> Result<String, Fail> {
-    let (end, are_kept) = ended(alloc, question)?;
-    let (status, outputs) = end.as_str().split_once(" [").ok_or("no output")?;
-    let place = if are_kept {
-        place_of(outputs)
-    } else {
-        "a file"
-    };
-    Ok(format!(in alloc; "{status} to {place}")?)
-}
-
-#[test]
-fn texts_of_the_parser_go_to_one_output(rt: HostRuntime) -> Result<(), Fail> {
-    ask_all(rt.alloc(), TEXTS, text)
-}
-
-/// Runs, and which files are new then, each as a copy of which.
-const FILES: &str = "\
-index out a.dcm b.dcm --uid 2.25.0 > out/DICOMDIR=first out/PT000001/ST000001/SE000001/IM000001=a.dcm
-index out/ b.dcm a.dcm a.dcm --uid 2.25.0 > out/DICOMDIR=first out/PT000001/ST000001/SE000001/IM000001=a.dcm
-index . e.dcm a.dcm --uid 2.25.0 > ./DICOMDIR=first ./PT000001/ST000001/SE000001/IM000001=a.dcm
-index out b.dcm --uid 2.25.0 > out/DICOMDIR=empty";
-
-fn files_after(alloc: Global, line: &str) -> Result<MemFiles, Fail> {
-    let mut files = disc(alloc)?;
-    let line = format!(in alloc; "- - dicomdir {line}")?;
-    end_of(alloc, line.as_str(), &mut files)?;
-    Ok(files)
-}
-
-fn makes(alloc: Global, case: &str) -> Result<bool, Fail> {
-    let (line, words) = case.split_once(" > ").ok_or("no files")?;
-    let files = files_after(alloc, line)?;
-    are_equal(alloc, &files, &disc_with(alloc, words)?)
-}
-
-#[test]
-fn a_run_adds_the_directory_and_its_images_alone(rt: HostRuntime) -> Result<(), Fail> {
-    claim_all(rt.alloc(), FILES, '\n', makes)
-}
-
-/// Sources, and others from which the same files are made.
+/// Steps, a line, and a step that leaves the same files: the directory and its images, and no more. Neither order nor
+/// repeats of the sources change them, and of the versions of one instance the greatest is copied.
 const SAME: &str = "\
-a.dcm d.dcm > d.dcm a.dcm
-a.dcm d.dcm > d.dcm a.dcm d.dcm a.dcm a.dcm
-a.dcm d.dcm > b.dcm d.dcm note.txt a.dcm
-a.dcm c.dcm > c.dcm a.dcm
-a.dcm c.dcm > c.dcm
-a.dcm c.dcm e.dcm d.dcm > d.dcm e.dcm c.dcm";
-
-fn are_same(alloc: Global, case: &str) -> Result<bool, Fail> {
-    let (one, other) = case.split_once(" > ").ok_or("no others")?;
-    let one = format!(in alloc; "index out {one}")?;
-    let other = format!(in alloc; "index out {other}")?;
-    let files = files_after(alloc, one.as_str())?;
-    are_equal(alloc, &files, &files_after(alloc, other.as_str())?)
-}
-
-#[test]
-fn neither_order_nor_repeats_change_the_files(rt: HostRuntime) -> Result<(), Fail> {
-    claim_all(rt.alloc(), SAME, '\n', are_same)
-}
-
-/// Versions of one instance, and which is copied.
-const KEPT: &str = "\
-a.dcm > a.dcm
-f.dcm > f.dcm
-f.dcm a.dcm > a.dcm
-a.dcm f.dcm > a.dcm
-a.dcm c.dcm > c.dcm
-c.dcm a.dcm > c.dcm
-e.dcm a.dcm > a.dcm
-a.dcm e.dcm > a.dcm
-e.dcm c.dcm a.dcm > c.dcm";
-
-fn is_kept(alloc: Global, case: &str) -> Result<bool, Fail> {
-    let (sources, kept) = case.split_once(" > ").ok_or("no version")?;
-    let line = format!(in alloc; "index out {sources}")?;
-    let files = files_after(alloc, line.as_str())?;
-    let image = files.bytes(FIRST_IMAGE).ok_or("no image")?;
-    Ok(image == files.bytes(kept).ok_or("no such file")?)
-}
+d1=set: index out a.dcm b.dcm --uid 2.25.0 > out=set
+d1=set: index out/ b.dcm a.dcm a.dcm --uid 2.25.0 > out=set
+d1=set: index . e.dcm a.dcm --uid 2.25.0 > .=set
+d1=set: index out b.dcm --uid 2.25.0 > out/DICOMDIR=empty
+d1=set: index out a.dcm d.dcm > index out d.dcm a.dcm
+d1=set: index out a.dcm d.dcm > index out d.dcm a.dcm d.dcm a.dcm a.dcm
+d1=set: index out a.dcm d.dcm > index out b.dcm d.dcm note.txt a.dcm
+d1=set: index out a.dcm c.dcm > index out c.dcm a.dcm
+d1=set: index out a.dcm c.dcm > index out c.dcm
+d1=set: index out a.dcm c.dcm e.dcm d.dcm > index out d.dcm e.dcm c.dcm
+d1=set: index out f.dcm a.dcm > index out a.dcm
+d1=set: index out a.dcm f.dcm > index out a.dcm
+d1=set: index out e.dcm a.dcm > index out a.dcm
+d1=set: index out a.dcm e.dcm > index out a.dcm
+d1=set: index out e.dcm c.dcm a.dcm > index out c.dcm";
 
 #[test]
-fn the_greater_version_is_copied(rt: HostRuntime) -> Result<(), Fail> {
-    claim_all(rt.alloc(), KEPT, '\n', is_kept)
-}
-
-/// Sources that change at their second opening to what another has, how a run over them ends, and which files are new
-/// then.
-const CHANGED: &str = "\
-a.dcm c.dcm > 1 [] [FAULT a.dcm: 97 Changed|] > out/PT000001/ST000001/SE000001/IM000001=c.dcm
-a.dcm note.txt > 1 [] [FAULT a.dcm: 97 Changed|] > out/PT000001/ST000001/SE000001/IM000001=note.txt
-a.dcm a.dcm > 0 [DONE 1 instances, 876 bytes|] [] > \
-out/PT000001/ST000001/SE000001/IM000001=a.dcm out/DICOMDIR=first";
-
-fn end_by_change(alloc: Global, path: &str, files: &mut MemFiles) -> Result<String, Fail> {
-    let line = format!(in alloc; "- - dicomdir index out {path} --uid 2.25.0")?;
-    end_of(alloc, line.as_str(), files)
-}
-
-fn changing(alloc: Global, path: &str, other: &str) -> Result<MemFiles, Fail> {
-    let mut files = disc(alloc)?;
-    let bytes = files.bytes(other).ok_or("no such file")?.to_vec(alloc)?;
-    files.put_later(path, &bytes)?;
-    Ok(files)
-}
-
-fn changed(alloc: Global, question: &str, end: &str, words: &str) -> Result<bool, Fail> {
-    let (path, other) = question.split_once(' ').ok_or("no other")?;
-    let mut files = changing(alloc, path, other)?;
-    let is_end = end_by_change(alloc, path, &mut files)?.as_str() == end;
-    let words = format!(in alloc; "{path}={other} {words}")?;
-    Ok(is_end && are_equal(alloc, &files, &disc_with(alloc, words.as_str())?)?)
-}
-
-fn change_is_told(alloc: Global, case: &str) -> Result<bool, Fail> {
-    let (question, rest) = case.split_once(" > ").ok_or("no end")?;
-    let (end, words) = rest.split_once(" > ").ok_or("no files")?;
-    changed(alloc, question, end, words)
-}
-
-#[test]
-fn sources_that_change_are_refused(rt: HostRuntime) -> Result<(), Fail> {
-    claim_all(rt.alloc(), CHANGED, '\n', change_is_told)
+fn runs_leave_the_same_files(rt: HostRuntime) -> Result<(), Fail> {
+    claim_all(rt.alloc(), SAME, '\n', leave_the_same)
 }

@@ -7,7 +7,7 @@ use std::alloc::Global;
 use std::test::Fail;
 
 /// Makes the disc after steps, separated by `; `.
-pub(crate) fn disc_after(alloc: Global, steps: &str) -> Result<MemFiles, Fail> {
+fn disc_after(alloc: Global, steps: &str) -> Result<MemFiles, Fail> {
     let mut files = disc(alloc)?;
     for step in steps.split("; ") {
         take_step(alloc, step, &mut files)?;
@@ -18,7 +18,7 @@ pub(crate) fn disc_after(alloc: Global, steps: &str) -> Result<MemFiles, Fail> {
 const RUNS: [&str; 4] = ["index ", "merge ", "withdraw ", "stage "];
 
 /// Runs a line, which must succeed, has hard links refused, has the first reader of a file fail, has writes fail after
-/// some bytes, has a later call refused, or puts files.
+/// some bytes, has a later call refused, has a file change at its second opening to what another has, or puts files.
 fn take_step(alloc: Global, step: &str, files: &mut MemFiles) -> Result<(), Fail> {
     if step == "no links" {
         files.refuse_links();
@@ -34,6 +34,12 @@ fn take_step(alloc: Global, step: &str, files: &mut MemFiles) -> Result<(), Fail
     }
     if let Some(number) = step.strip_prefix("refused ") {
         files.fail_call(number.parse()?);
+        return Ok(());
+    }
+    if let Some(words) = step.strip_prefix("later ") {
+        let (path, other) = words.split_once('=').ok_or("no other file")?;
+        let bytes = files.bytes(other).ok_or("no such file")?.to_vec(alloc)?;
+        files.put_later(path, &bytes)?;
         return Ok(());
     }
     if !RUNS.iter().any(|run| step.starts_with(run)) {

@@ -40,11 +40,6 @@ full=set: - - dicomdir stage p a.dcm --keep-going > 0 [DONE 1 sources, 0 skipped
 full=set: - - dicomdir stage full a.dcm --verbose > 1 [] [FAULT full: 94 Create|  \
 help: take a new folder: PILE is there, maybe from an earlier run|] kept";
 
-#[test]
-fn stages_say_how_they_ended(rt: HostRuntime) -> Result<(), Fail> {
-    ask_all(rt.alloc(), STAGES, ran)
-}
-
 /// Cases of `ran`. The lists of all piles are read before one image is copied.
 const PUBLISHES: &str = "\
 stage p a.dcm b.dcm c.dcm d.dcm: - - dicomdir publish o p --uid 2.25.0 > \
@@ -101,7 +96,8 @@ stage p a.dcm: - - dicomdir publish taken p --link > \
 stage p a.dcm: 9 - dicomdir publish o p > 1 [DONE 1 in] [] changed";
 
 #[test]
-fn publishes_say_how_they_ended(rt: HostRuntime) -> Result<(), Fail> {
+fn stages_and_publishes_say_how_they_ended(rt: HostRuntime) -> Result<(), Fail> {
+    ask_all(rt.alloc(), STAGES, ran)?;
     ask_all(rt.alloc(), PUBLISHES, ran)
 }
 
