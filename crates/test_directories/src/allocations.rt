@@ -11,46 +11,9 @@ use dd_dir::{
 use dd_elem::SetId;
 use dd_layout::PlanFault;
 use dd_set::WriteFault;
-use dd_vectors::{
-    Sink, allocation_numbers, first_directory, refuse_allocation, require, was_refused,
-};
+use dd_vectors::{Sink, first_directory, refuse_allocation, refuse_each, require, was_refused};
 use std::alloc::Global;
 use std::test::Fail;
-
-#[derive(Clone, Copy)]
-enum Call {
-    Assemble,
-    CatalogueOf,
-    DerivedUid,
-    OwnOf,
-    PlacesOf,
-    Publish,
-    ReadDirectory,
-    WriteDirectory,
-}
-
-/// Makes the call with the chosen allocation refused, and answers whether one was.
-fn is_refused(alloc: Global, call: Call, chosen: u32) -> Result<bool, Fail> {
-    match call {
-        Call::Assemble => assemble_refused(alloc, chosen),
-        Call::CatalogueOf => catalogue_of_refused(alloc, chosen),
-        Call::DerivedUid => derived_uid_refused(alloc, chosen),
-        Call::OwnOf => own_of_refused(alloc, chosen),
-        Call::PlacesOf => places_of_refused(alloc, chosen),
-        Call::Publish => publish_refused(alloc, chosen),
-        Call::ReadDirectory => read_directory_refused(alloc, chosen),
-        Call::WriteDirectory => write_directory_refused(alloc, chosen),
-    }
-}
-
-fn refuse_each(alloc: Global, call: Call) -> Result<(), Fail> {
-    for chosen in allocation_numbers() {
-        if !is_refused(alloc, call, chosen)? {
-            return Ok(());
-        }
-    }
-    Err("the call has more allocations than are refused".into())
-}
 
 fn publish_refused(alloc: Global, chosen: u32) -> Result<bool, Fail> {
     let (label, limits) = (label_of("")?, limits_of("")?);
@@ -68,7 +31,7 @@ fn publish_refused(alloc: Global, chosen: u32) -> Result<bool, Fail> {
 
 #[test]
 fn allocations_of_publish(rt: HostRuntime) -> Result<(), Fail> {
-    refuse_each(rt.alloc(), Call::Publish)
+    refuse_each(rt.alloc(), publish_refused)
 }
 
 fn assemble_refused(alloc: Global, chosen: u32) -> Result<bool, Fail> {
@@ -90,7 +53,7 @@ fn assemble_refused(alloc: Global, chosen: u32) -> Result<bool, Fail> {
 
 #[test]
 fn allocations_of_assemble(rt: HostRuntime) -> Result<(), Fail> {
-    refuse_each(rt.alloc(), Call::Assemble)
+    refuse_each(rt.alloc(), assemble_refused)
 }
 
 const UID: &[u8] = b"2.25.203980963844863891982135713436996079817";
@@ -111,7 +74,7 @@ fn derived_uid_refused(alloc: Global, chosen: u32) -> Result<bool, Fail> {
 
 #[test]
 fn allocations_of_derived_uid(rt: HostRuntime) -> Result<(), Fail> {
-    refuse_each(rt.alloc(), Call::DerivedUid)
+    refuse_each(rt.alloc(), derived_uid_refused)
 }
 
 /// A refused allocation is a write that fails: the writer holds a front of the directory then, and what is written
@@ -136,7 +99,7 @@ fn write_directory_refused(alloc: Global, chosen: u32) -> Result<bool, Fail> {
 
 #[test]
 fn allocations_of_write_directory(rt: HostRuntime) -> Result<(), Fail> {
-    refuse_each(rt.alloc(), Call::WriteDirectory)
+    refuse_each(rt.alloc(), write_directory_refused)
 }
 
 /// Four images, and an instance that is withdrawn.
@@ -174,7 +137,7 @@ fn read_directory_refused(alloc: Global, chosen: u32) -> Result<bool, Fail> {
 
 #[test]
 fn allocations_of_read_directory(rt: HostRuntime) -> Result<(), Fail> {
-    refuse_each(rt.alloc(), Call::ReadDirectory)
+    refuse_each(rt.alloc(), read_directory_refused)
 }
 
 fn places_of_refused(alloc: Global, chosen: u32) -> Result<bool, Fail> {
@@ -192,7 +155,7 @@ fn places_of_refused(alloc: Global, chosen: u32) -> Result<bool, Fail> {
 
 #[test]
 fn allocations_of_places_of(rt: HostRuntime) -> Result<(), Fail> {
-    refuse_each(rt.alloc(), Call::PlacesOf)
+    refuse_each(rt.alloc(), places_of_refused)
 }
 
 /// How many images it has, the first byte of the digest, the description, the instance and the File ID of each,
@@ -224,7 +187,7 @@ fn own_of_refused(alloc: Global, chosen: u32) -> Result<bool, Fail> {
 
 #[test]
 fn allocations_of_own_of(rt: HostRuntime) -> Result<(), Fail> {
-    refuse_each(rt.alloc(), Call::OwnOf)
+    refuse_each(rt.alloc(), own_of_refused)
 }
 
 fn require_instances(alloc: Global, catalogue: &Catalogue) -> Result<(), Fail> {
@@ -251,5 +214,5 @@ fn catalogue_of_refused(alloc: Global, chosen: u32) -> Result<bool, Fail> {
 
 #[test]
 fn allocations_of_catalogue_of(rt: HostRuntime) -> Result<(), Fail> {
-    refuse_each(rt.alloc(), Call::CatalogueOf)
+    refuse_each(rt.alloc(), catalogue_of_refused)
 }

@@ -75,28 +75,19 @@ fn said(alloc: Global, bytes: &[u8]) -> Result<String, Fail> {
     }
 }
 
-fn said_of_front(alloc: Global, bytes: &[u8], size: usize) -> Result<String, Fail> {
-    said(alloc, bytes.get(..size).ok_or("fewer bytes")?)
-}
-
 /// Gives what is said of all fronts of the range, or of the first that differs.
 fn cut(alloc: Global, question: &str) -> Result<String, Fail> {
     let (first, last) = question.split_once(' ').ok_or("no last")?;
     let (first, last): (usize, usize) = (first.parse()?, last.parse()?);
     let bytes = first_directory(alloc)?;
-    let common = said_of_front(alloc, &bytes, first)?;
+    let common = said(alloc, bytes.get(..first).ok_or("fewer bytes")?)?;
     for size in first..=last {
-        let said = said_of_front(alloc, &bytes, size)?;
+        let said = said(alloc, bytes.get(..size).ok_or("fewer bytes")?)?;
         if said.as_str() != common.as_str() {
             return Ok(format!(in alloc; "{said} at {size}")?);
         }
     }
     Ok(common)
-}
-
-#[test]
-fn directories_that_are_cut_short(rt: HostRuntime) -> Result<(), Fail> {
-    ask_all(rt.alloc(), CUTS, cut)
 }
 
 /// The last word is `itself` where it is the offset.
@@ -134,6 +125,7 @@ fn offset(alloc: Global, question: &str) -> Result<String, Fail> {
 }
 
 #[test]
-fn offsets_of_any_value(rt: HostRuntime) -> Result<(), Fail> {
+fn directories_cut_short_and_offsets_of_any_value(rt: HostRuntime) -> Result<(), Fail> {
+    ask_all(rt.alloc(), CUTS, cut)?;
     ask_all(rt.alloc(), OFFSETS, offset)
 }

@@ -1,7 +1,7 @@
 use crate::publishing::published;
-use dd_dir::{Forest, Tree, catalogue_of, read_directory};
+use dd_dir::{Forest, Tree, read_directory};
 use dd_set::{Syntax, write_set};
-use dd_vectors::{Sink, bytes_of, claim_all, taken};
+use dd_vectors::{Sink, bytes_of, claim_all};
 use std::alloc::Global;
 use std::test::Fail;
 
@@ -65,33 +65,17 @@ fn record_in<'f, 'a>(forest: &'f Forest<'a>, at: u32) -> Option<&'f Tree<'a>> {
     None
 }
 
-fn has(alloc: Global, forest: &Forest<'_>, place: &str, elements: &str) -> Result<bool, Fail> {
-    let record = record_in(forest, place.parse()?).ok_or("no record")?;
+fn has_elements(alloc: Global, case: &str) -> Result<bool, Fail> {
+    let (place, elements) = case.split_once(" > ").ok_or("no elements")?;
+    let bytes = published(alloc, "1234")?;
+    let forest = read_directory(alloc, &bytes)?;
+    let record = record_in(&forest, place.parse()?).ok_or("no record")?;
     let mut sink = Sink::new(alloc, None);
     write_set(&record.set, Syntax::Explicit, &mut sink)?;
     Ok(sink.bytes() == bytes_of(alloc, elements)?.as_slice())
 }
 
-fn has_elements(alloc: Global, case: &str) -> Result<bool, Fail> {
-    let (place, elements) = case.split_once(" > ").ok_or("no elements")?;
-    let bytes = published(alloc, "1234")?;
-    let forest = read_directory(alloc, &bytes)?;
-    has(alloc, &forest, place, elements)
-}
-
 #[test]
 fn elements_of_records(rt: HostRuntime) -> Result<(), Fail> {
     claim_all(rt.alloc(), ELEMENTS, '\n', has_elements)
-}
-
-/// Says whether the directory of these images gives their harmonised catalogue back.
-fn says_itself(alloc: Global, letters: &str) -> Result<bool, Fail> {
-    let bytes = published(alloc, letters)?;
-    let forest = read_directory(alloc, &bytes)?;
-    Ok(catalogue_of(alloc, &forest)? == taken(alloc, letters)?.harmonise()?)
-}
-
-#[test]
-fn directories_say_their_versions(rt: HostRuntime) -> Result<(), Fail> {
-    claim_all(rt.alloc(), "1 1234 AC ZL pqr", ' ', says_itself)
 }

@@ -105,11 +105,6 @@ fn catalogue(alloc: Global, question: &str) -> Result<String, Fail> {
     }
 }
 
-#[test]
-fn catalogues_of_directories(rt: HostRuntime) -> Result<(), Fail> {
-    ask_all(rt.alloc(), CATALOGUES, catalogue)
-}
-
 pub(crate) fn files(alloc: Global, places: &[Place<'_>]) -> Result<String, Fail> {
     let count = places.len();
     let mut text = format!(in alloc; "{count}")?;
@@ -127,11 +122,6 @@ fn places(alloc: Global, question: &str) -> Result<String, Fail> {
         Ok(places) => files(alloc, &places),
         Err(fault) => Ok(format!(in alloc; "{fault}")?),
     }
-}
-
-#[test]
-fn files_of_directories(rt: HostRuntime) -> Result<(), Fail> {
-    ask_all(rt.alloc(), PLACES, places)
 }
 
 pub(crate) fn images(alloc: Global, own: &Own<'_>) -> Result<String, Fail> {
@@ -158,6 +148,8 @@ fn own(alloc: Global, question: &str) -> Result<String, Fail> {
 }
 
 #[test]
-fn images_of_directories(rt: HostRuntime) -> Result<(), Fail> {
+fn directories_are_read_back(rt: HostRuntime) -> Result<(), Fail> {
+    ask_all(rt.alloc(), CATALOGUES, catalogue)?;
+    ask_all(rt.alloc(), PLACES, places)?;
     ask_all(rt.alloc(), IMAGES, own)
 }

@@ -3,21 +3,9 @@ use dd_catalogue::Catalogue;
 use dd_dir::write_directory;
 use dd_layout::{Plan, lay_out};
 use dd_set::WriteFault;
-use dd_vectors::{Sink, ask_all, first_directory, taken, v1_version};
+use dd_vectors::{Sink, ask_all, taken, v1_version};
 use std::alloc::Global;
 use std::test::Fail;
-
-/// After how many bytes a writer fails that gets the directory of V1; how many bytes went or the refusal, and how many
-/// of its bytes the writer holds.
-const SENT: &str = "\
-0 > 12 Write 0 [0]
-131 > 12 Write 131 [131]
-284 > 12 Write 284 [284]
-321 > 12 Write 321 [321]
-400 > 12 Write 400 [400]
-875 > 12 Write 875 [875]
-876 > 876 [876]
-1000 > 876 [876]";
 
 /// Makes the catalogue of V1 alone.
 pub(crate) fn first_catalogue(alloc: Global) -> Result<Catalogue, Fail> {
@@ -31,34 +19,6 @@ pub(crate) fn first_catalogue(alloc: Global) -> Result<Catalogue, Fail> {
 pub(crate) fn first_plan(alloc: Global) -> Result<Plan, Fail> {
     let catalogue = first_catalogue(alloc)?;
     Ok(lay_out(alloc, &catalogue, &label_of("")?, limits_of("")?)?)
-}
-
-fn sent(alloc: Global, sink: &mut Sink) -> Result<String, Fail> {
-    match write_directory(&first_plan(alloc)?, sink) {
-        Ok(size) => Ok(format!(in alloc; "{size}")?),
-        Err(fault) => Ok(format!(in alloc; "{fault}")?),
-    }
-}
-
-fn held(alloc: Global, sink: &Sink) -> Result<usize, Fail> {
-    if first_directory(alloc)?.starts_with(sink.bytes()) {
-        Ok(sink.bytes().len())
-    } else {
-        Err("it holds other bytes".into())
-    }
-}
-
-fn directory(alloc: Global, question: &str) -> Result<String, Fail> {
-    let mut sink = Sink::new(alloc, Some(question.parse()?));
-    sink.reserve(876)?;
-    let answer = sent(alloc, &mut sink)?;
-    let held = held(alloc, &sink)?;
-    Ok(format!(in alloc; "{answer} [{held}]")?)
-}
-
-#[test]
-fn the_directory_of_v1(rt: HostRuntime) -> Result<(), Fail> {
-    ask_all(rt.alloc(), SENT, directory)
 }
 
 /// After how many bytes at least and at most a writer fails that gets the directory of four images, and what comes of

@@ -106,11 +106,6 @@ fn read(alloc: Global, question: &str) -> Result<String, Fail> {
     }
 }
 
-#[test]
-fn walks_of_directories(rt: HostRuntime) -> Result<(), Fail> {
-    ask_all(rt.alloc(), CHANGED, read)
-}
-
 fn levels(tree: &Tree<'_>) -> u32 {
     let mut most = 0;
     for below in &tree.below {
@@ -119,24 +114,20 @@ fn levels(tree: &Tree<'_>) -> u32 {
     most.saturating_add(1)
 }
 
-fn levels_or_fault(alloc: Global, bytes: &[u8]) -> Result<String, Fail> {
-    match read_directory(alloc, bytes) {
+fn read_deep(alloc: Global, question: &str) -> Result<String, Fail> {
+    let bytes = deep(alloc, question.parse()?)?;
+    let size = bytes.len();
+    match read_directory(alloc, &bytes) {
         Ok(forest) => {
-            let root = forest.trees.first().ok_or("no record")?;
-            let levels = levels(root);
-            Ok(format!(in alloc; "{levels}")?)
+            let levels = levels(forest.trees.first().ok_or("no record")?);
+            Ok(format!(in alloc; "{size} bytes, {levels}")?)
         }
-        Err(fault) => Ok(format!(in alloc; "{fault}")?),
+        Err(fault) => Ok(format!(in alloc; "{size} bytes, {fault}")?),
     }
 }
 
-fn read_deep(alloc: Global, question: &str) -> Result<String, Fail> {
-    let bytes = deep(alloc, question.parse()?)?;
-    let (size, said) = (bytes.len(), levels_or_fault(alloc, &bytes)?);
-    Ok(format!(in alloc; "{size} bytes, {said}")?)
-}
-
 #[test]
-fn levels_of_directories(rt: HostRuntime) -> Result<(), Fail> {
+fn walks_and_levels_of_directories(rt: HostRuntime) -> Result<(), Fail> {
+    ask_all(rt.alloc(), CHANGED, read)?;
     ask_all(rt.alloc(), DEEP, read_deep)
 }

@@ -41,11 +41,6 @@ fn ends_so(alloc: Global, case: &str) -> Result<bool, Fail> {
     Ok(published(alloc, words)? == bytes)
 }
 
-#[test]
-fn withdrawn_instances_are_named_behind_the_records(rt: HostRuntime) -> Result<(), Fail> {
-    claim_all(rt.alloc(), ENDS, '\n', ends_so)
-}
-
 fn limited(alloc: Global, question: &str) -> Result<String, Fail> {
     let catalogue = catalogue_of(alloc, "1/1.2.3.4.6")?;
     match publish(alloc, &catalogue, &label_of("")?, limits_of(question)?) {
@@ -57,11 +52,6 @@ fn limited(alloc: Global, question: &str) -> Result<String, Fail> {
     }
 }
 
-#[test]
-fn their_names_count_towards_the_limit(rt: HostRuntime) -> Result<(), Fail> {
-    ask_all(rt.alloc(), LIMITS, limited)
-}
-
 fn sent(alloc: Global, question: &str) -> Result<String, Fail> {
     let catalogue = catalogue_of(alloc, "1/1.2.3.4.6")?;
     let plan = lay_out(alloc, &catalogue, &label_of("")?, limits_of("")?)?;
@@ -69,7 +59,9 @@ fn sent(alloc: Global, question: &str) -> Result<String, Fail> {
 }
 
 #[test]
-fn their_names_stop_where_the_writer_fails(rt: HostRuntime) -> Result<(), Fail> {
+fn withdrawn_instances_are_named_behind_the_records(rt: HostRuntime) -> Result<(), Fail> {
+    claim_all(rt.alloc(), ENDS, '\n', ends_so)?;
+    ask_all(rt.alloc(), LIMITS, limited)?;
     ask_all(rt.alloc(), SENT, sent)
 }
 
