@@ -198,11 +198,6 @@ fn merge_in_words(alloc: Global, question: &str) -> Result<String, Fail> {
     )
 }
 
-#[test]
-fn merges_of_directories(rt: HostRuntime) -> Result<(), Fail> {
-    ask_all(rt.alloc(), MERGES, merge_in_words)
-}
-
 fn withdrawal_in_words(alloc: Global, question: &str) -> Result<String, Fail> {
     let (set, rest) = question.split_once(';').ok_or("no UIDs")?;
     let (uids, label) = rest.split_once(';').ok_or("no label")?;
@@ -220,7 +215,8 @@ fn withdrawal_in_words(alloc: Global, question: &str) -> Result<String, Fail> {
 }
 
 #[test]
-fn withdrawals_of_instances(rt: HostRuntime) -> Result<(), Fail> {
+fn merges_and_withdrawals(rt: HostRuntime) -> Result<(), Fail> {
+    ask_all(rt.alloc(), MERGES, merge_in_words)?;
     ask_all(rt.alloc(), WITHDRAWALS, withdrawal_in_words)
 }
 

@@ -146,11 +146,6 @@ fn rows_in_words(alloc: Global, question: &str) -> Result<String, Fail> {
     Ok(said)
 }
 
-#[test]
-fn rows_of_directories(rt: HostRuntime) -> Result<(), Fail> {
-    ask_all(rt.alloc(), ROWS, rows_in_words)
-}
-
 /// Gives the status and the front of a directory.
 pub(crate) fn front_in_words(alloc: Global, bytes: &[u8]) -> Result<String, Fail> {
     let (mut ends, mut unreached, mut answer) = ([0; 3], 0, no_answer());
@@ -211,6 +206,7 @@ fn spellings_in_words(alloc: Global, name: &str) -> Result<String, Fail> {
 }
 
 #[test]
-fn spellings_of_names(rt: HostRuntime) -> Result<(), Fail> {
+fn rows_of_directories_and_spellings_of_names(rt: HostRuntime) -> Result<(), Fail> {
+    ask_all(rt.alloc(), ROWS, rows_in_words)?;
     ask_all(rt.alloc(), SPELLINGS, spellings_in_words)
 }

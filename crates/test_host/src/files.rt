@@ -122,12 +122,10 @@ fn is_in_order(alloc: Global, case: &str) -> Result<bool, Fail> {
 }
 
 #[test]
-fn tells_what_each_call_came_to(rt: HostRuntime) -> Result<(), Fail> {
-    claim_all(rt.alloc(), CASES, '\n', is_right)
-}
-
-#[test]
-fn stores_all_before_a_directory(rt: HostRuntime) -> Result<(), Fail> {
+fn tells_what_each_call_came_to_and_stores_all_before_a_directory(
+    rt: HostRuntime,
+) -> Result<(), Fail> {
+    claim_all(rt.alloc(), CASES, '\n', is_right)?;
     claim_all(rt.alloc(), ORDERS, '\n', is_in_order)
 }
 

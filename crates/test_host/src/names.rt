@@ -154,20 +154,12 @@ fn finds_what_systems_show_and_follows_no_link(rt: HostRuntime) -> Result<(), Fa
 
 #[test]
 fn gives_second_names_and_follows_no_link(rt: HostRuntime) -> Result<(), Fail> {
-    claim_all(rt.alloc(), SECONDS, '\n', is_found)
-}
-
-#[test]
-fn gives_stored_files_second_names(rt: HostRuntime) -> Result<(), Fail> {
+    claim_all(rt.alloc(), SECONDS, '\n', is_found)?;
     claim_all(rt.alloc(), STORED, '\n', is_found)
 }
 
 #[test]
-fn says_what_is_free(rt: HostRuntime) -> Result<(), Fail> {
-    claim_all(rt.alloc(), FREE, '\n', is_found)
-}
-
-#[test]
-fn looks_no_more_than_it_must(rt: HostRuntime) -> Result<(), Fail> {
+fn says_what_is_free_and_looks_no_more_than_it_must(rt: HostRuntime) -> Result<(), Fail> {
+    claim_all(rt.alloc(), FREE, '\n', is_found)?;
     claim_all(rt.alloc(), LOOKS, '\n', is_looked_for)
 }
