@@ -1,7 +1,6 @@
 //! Refuses the allocations of a call in turn, if the library of tests/faults/refuse.c is loaded.
 
 use std::alloc::Global;
-use std::ops::RangeInclusive;
 use std::test::Fail;
 
 const MOST_ALLOCATIONS: u32 = 10_000;
@@ -12,11 +11,6 @@ const BEYOND_MEMORY: usize = 1 << 62;
 
 /// A request that any machine grants. The library refuses it if the chosen allocation was refused.
 const WITNESS: usize = 1_000_003;
-
-/// Gives the numbers of the allocations to refuse in turn.
-pub fn allocation_numbers() -> RangeInclusive<u32> {
-    1..=MOST_ALLOCATIONS
-}
 
 fn is_refused(alloc: Global, length: usize) -> bool {
     Vec::<u8>::with_capacity(alloc, length).is_err()
