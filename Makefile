@@ -41,7 +41,12 @@ help:
 	@echo '  make uninstall  removes these files again, from the same PREFIX, LIBDIR, PYTHONDIR, PYTHON and DESTDIR'
 	@echo '  make deb        makes Debian packages of them, in packaging/out'
 	@echo '  make wheel      makes a wheel of the Python package and the C library, in packaging/out'
-	@echo '  make quick      runs tests without proof, and the commands of README.md (CONTRIBUTING.md)'
+	@echo '  make form       looks at the form of the sources, at wrong bodies and at pages, in seconds (CONTRIBUTING.md)'
+	@echo "  make try        runs the program of today's sources, without proof, as make try ARGS='index OUT a.dcm'. The shell"
+	@echo '                  reads ARGS, where make wants $$$$ for $$. Names are those of the folder in which make works. Its'
+	@echo '                  input and output are those of make, which ends with status 2 where it has another than 0, and'
+	@echo '                  says which. tools/dicomdir-try takes words as they are, in each folder, and has its status'
+	@echo '  make quick      runs the tests of what is changed, without proof, and the commands of README.md'
 	@echo '  make docs       makes what pages, man pages and completions have of the sources and the help'
 	@echo
 	@echo 'packaging/test tries what is installed. tools/dicomdir-build makes the program itself.'
@@ -96,6 +101,12 @@ uninstall:
 check:
 	@packaging/check
 
+form:
+	@tools/form
+
+try:
+	@tools/dicomdir-try $(ARGS)
+
 quick:
 	@packaging/quick $(CRATE)
 
@@ -108,4 +119,4 @@ wheel:
 docs:
 	docs/generate --write
 
-.PHONY: help check quick install uninstall deb wheel docs
+.PHONY: help check form try quick install uninstall deb wheel docs
