@@ -9,7 +9,7 @@ from hashlib import sha256
 from pathlib import Path
 
 import dicomdir
-from cases import EXAMPLES, PACKAGED, TOP, Tally, fault_of, head_of, packaged_images, run
+from cases import EXAMPLES, PACKAGED, TOP, Tally, copy_shown, fault_of, head_of, packaged_images, run
 
 room = Path(sys.argv[1])
 
@@ -77,6 +77,37 @@ def merges(tally, sets):
         tally.note("merge", status == 0 and same_folders(out, mine), some, errors)
     except dicomdir.Fault as fault:
         tally.note("merge refused", status == 1 and fault.words in errors, errors, str(fault))
+
+
+def paths_of(built):
+    """The paths of the images, and then those of each file that is left out and of the one that is kept."""
+    return [[path for path, _ in built.images], *([one.path, one.kept] for one in built.left_out)]
+
+
+def discs(tally):
+    """`merge` and `withdraw` of discs under each form of name: paths are those of their records, and what is written is
+    what `merge` makes."""
+    burnt = [dicomdir.FileSet.build(files).write(room / f"burnt{number}") for number, files in enumerate((
+        [*EXAMPLES, *packaged_images()[::4]], [*variants()[::2], *packaged_images()[::6]]))]
+    run("merge", room / "wanted", *(one.path for one in burnt))
+    plain = dicomdir.merge(burnt)
+    for form in range(8):
+        folders = [room / f"shown{form}{number}" for number in range(len(burnt))]
+        for one, folder in zip(burnt, folders):
+            copy_shown(Path(one.path), folder, form)
+        sets, mine = [dicomdir.read(folder) for folder in folders], room / f"mine{form}"
+        shown = {old.path: new.path for one, other in zip(burnt, sets) for old, new in zip(one, other)}
+        built = dicomdir.merge(sets)
+        same = bool(built.left_out) and paths_of(built) == [[shown[path] for path in one] for one in paths_of(plain)]
+        copies = [one.read() for one in built.write(mine)]
+        same = same and [Path(path).read_bytes() for path, _ in built.images] == copies
+        checked = same_folders(room / "wanted", mine) and run("check", "--keys", "--strict", mine)[0] == 0
+        tally.note("merge of discs", same and checked, form, built.images, built.left_out)
+        first, *others = sets[0]
+        left = sets[0].withdraw([first.SOPInstanceUID])
+        tally.note("withdraw of a disc", paths_of(left) == [[one.path for one in others]], form, left.images)
+    away = dicomdir.merge([dicomdir.FileSet(burnt[0].data)])
+    tally.note("without a folder", paths_of(away) == [["/".join(one.file_id) for one in burnt[0]]], away.images)
 
 
 def withdraws(tally, folder):
@@ -215,8 +246,9 @@ def main():
     for folder in with_images[:8]:
         withdraws(tally, folder)
         damages(tally, folder)
+    discs(tally)
     refuses(tally)
-    tally.end(12)
+    tally.end(15)
 
 
 main()

@@ -2,9 +2,12 @@
 import io
 import os
 import random
+import shutil
 import subprocess
 import sys
 from pathlib import Path
+
+from dicomdir import _bytes
 
 PROGRAM = os.environ["DICOMDIR_PROGRAM"]
 # Debian's python3-pydicom brings them.
@@ -39,6 +42,13 @@ def head_of(data):
 def packaged_images():
     """Images of one file-set of three producers, which the program takes."""
     return sorted(path for path in (PACKAGED / "dicomdirtests").glob("[79]*/*/*") if path.is_file())
+
+
+def copy_shown(folder, shown, form):
+    """Copies a file-set under the names of one form, from 0 to 7, that systems show of a disc."""
+    shutil.copytree(folder, shown)
+    for path in sorted(shown.rglob("*"), reverse=True):
+        path.rename(path.with_name(_bytes.spellings(path.name)[form]))
 
 
 def directories(made):

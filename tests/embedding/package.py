@@ -17,7 +17,7 @@ from hashlib import sha256
 from pathlib import Path
 
 import dicomdir
-from cases import EXAMPLES, TOP, head_of, run
+from cases import EXAMPLES, TOP, copy_shown, head_of, run
 from dicomdir import _bytes, _calls, _opening, _text
 
 made, room = Path(sys.argv[1]), Path(sys.argv[2])
@@ -105,9 +105,7 @@ def discs():
         burnt = dicomdir.read(folder)
         files, wanted = [one.read() for one in burnt], [str(one) for one in burnt.check(keys=True)]
         for form in range(8):
-            shutil.copytree(folder, shown)
-            for path in sorted(shown.rglob("*"), reverse=True):
-                path.rename(path.with_name(_bytes.spellings(path.name)[form]))
+            copy_shown(folder, shown, form)
             disc = dicomdir.read(shown)
             same(f"{folder.name}: files in form {form}", [Path(one.path).read_bytes() for one in disc] == files)
             same(f"{folder.name}: File IDs", [one.file_id for one in disc], [one.file_id for one in burnt])

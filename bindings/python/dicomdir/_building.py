@@ -1,12 +1,13 @@
 """New file-sets: their directories are made by the library, and their files are copied here."""
 import os
+from functools import cached_property
 from hashlib import sha256
 from typing import Any, Callable, Iterable, List, NamedTuple, Optional, Tuple, Union
 
 from . import _bytes
 from ._bytes import DIGEST
 from ._faults import Fault
-from ._opening import open_below, open_source, parts_of, pieces, read_source
+from ._opening import open_below, open_source, parts_of, path_below, pieces, read_source
 from ._records import FileSet, Record
 
 Path = Union[str, "os.PathLike[str]"]
@@ -15,8 +16,8 @@ _NEW = os.O_WRONLY | os.O_CREAT | os.O_EXCL | os.O_NOFOLLOW | os.O_CLOEXEC
 
 
 class Source(NamedTuple):
-    """A file that is copied: its path as it is shown, and what opens it."""
-    path: str
+    """A file that is copied: what finds its path, and what opens it."""
+    path: Callable[[], str]
     open: Callable[[], int]
 
 
@@ -30,20 +31,25 @@ class LeftOut(NamedTuple):
 class Built:
     """A file-set that is not written yet.
 
-    `directory` has the bytes of its DICOMDIR, and `images` a (source, record) for each image. What `index` and `merge`
-    say beside that: `skipped` has a (source, fault) for each file that is no image to `build`, and `left_out` a
+    `directory` has the bytes of its DICOMDIR, and `images` a (path, record) for each image. What `index` and `merge`
+    say beside that: `skipped` has a (path, fault) for each file that is no image to `build`, and `left_out` a
     (path, kept, uid) for each file of whose instance other bytes are kept. `repeated` counts the files that repeat one
-    that is kept, and `names` has the names of each Patient ID that has several.
+    that is kept, and `names` has the names of each Patient ID that has several. Paths are as given to
+    `build`, or as `Record.path` of the file-sets gives them.
     """
 
     def __init__(self, made: _bytes.Made, sources: List[Source], skipped: List[Tuple[str, Fault]],
                  left_out: List[LeftOut], notes: _bytes.Notes) -> None:
         self.directory, self.skipped, self._sources = made.directory, skipped, sources
         self.left_out, self.repeated, self.names = left_out, notes.repeated, notes.names
-        records = list(FileSet(made.directory))
-        if len(records) != len(sources):
+        self._records = list(FileSet(made.directory))
+        if len(self._records) != len(sources):
             raise SystemError("libdicomdir picked other files than its directory names")
-        self.images: List[Tuple[str, Record]] = [(source.path, record) for source, record in zip(sources, records)]
+
+    @cached_property
+    def images(self) -> List[Tuple[str, Record]]:
+        """A (path, record) for each image. The paths are looked for when this is first asked for."""
+        return [(source.path(), record) for source, record in zip(self._sources, self._records)]
 
     def write(self, folder: Path) -> FileSet:
         """Copies the images to the folder, which is made where it is not there, and then writes its DICOMDIR.
@@ -59,9 +65,9 @@ class Built:
         at = _open_folder(top)
         try:
             digests = self._copy_all(top, at)
-            for (path, record), found in zip(self.images, _changed(self.directory, self.images, digests)):
-                if found:
-                    raise Fault(97, path=path)
+            for source, changed in zip(self._sources, _changed(self.directory, self._records, digests)):
+                if changed:
+                    raise Fault(97, path=source.path())
             _write_new(at, "DICOMDIR", os.path.join(top, "DICOMDIR"), self.directory)
             _store(at, top)
         finally:
@@ -72,7 +78,7 @@ class Built:
         """The digest of each copy. Images come in the order of their folders, each of which is stored as it is left."""
         digests, opened = [], _Folders(top, at)
         try:
-            for source, (_, record) in zip(self._sources, self.images):
+            for source, record in zip(self._sources, self._records):
                 parts = parts_of(record.raw("ReferencedFileID")) or []
                 below = opened.enter(parts[:-1])
                 digests.append(_copy(source, below, parts[-1], os.path.join(top, *parts)))
@@ -196,7 +202,7 @@ def _copy(source: Source, below: int, name: str, path: str) -> bytes:
     try:
         old = source.open()
     except (OSError, ValueError) as error:
-        raise Fault(92, path=source.path) from error
+        raise Fault(92, path=source.path()) from error
     try:
         new = _create(below, name, path)
     except Fault:
@@ -209,22 +215,22 @@ def _copy(source: Source, below: int, name: str, path: str) -> bytes:
             _send(new, piece, path)
         _store(new, path)
     except OSError as error:
-        raise Fault(93, path=source.path) from error
+        raise Fault(93, path=source.path()) from error
     except Fault as fault:
-        raise (Fault(97, path=source.path) if fault.status == 39 else fault) from fault.__cause__
+        raise (Fault(97, path=source.path()) if fault.status == 39 else fault) from fault.__cause__
     finally:
         os.close(new)
     return digest.digest()
 
 
-def _changed(directory: bytes, images: List[Tuple[str, Record]], digests: List[bytes]) -> List[bool]:
+def _changed(directory: bytes, records: List[Record], digests: List[bytes]) -> List[bool]:
     """Whether each copy is another file than its record says, by the library."""
-    files = [(record.row, DIGEST, digest) for (_, record), digest in zip(images, digests)]
+    files = [(record.row, DIGEST, digest) for record, digest in zip(records, digests)]
     return [found.kind != 0 for found in (_bytes.find_in_files(directory, files, False, True) if files else [])]
 
 
-def _opener(path: str) -> Callable[[], int]:
-    return lambda: open_source(path)
+def _given(path: str) -> Source:
+    return Source(lambda: path, lambda: open_source(path))
 
 
 def build(paths: Iterable[Path], set_id: str, uid: str, strict: bool) -> Built:
@@ -239,7 +245,7 @@ def build(paths: Iterable[Path], set_id: str, uid: str, strict: bool) -> Built:
     for path in map(os.fsdecode, asked):
         try:
             parts.append(_bytes.of_image(read_source(path)))
-            kept.append(Source(path, _opener(path)))
+            kept.append(_given(path))
         except Fault as fault:
             if not 31 <= fault.status <= 39:
                 raise fault.with_path(path) from fault.__cause__
@@ -248,7 +254,7 @@ def build(paths: Iterable[Path], set_id: str, uid: str, strict: bool) -> Built:
     made, notes = _bytes.merge(parts, set_id, uid), _bytes.notes(parts, set_id, uid)
     if strict and (skipped or notes.left_out or notes.names):
         raise Fault(98)
-    left_out = [LeftOut(kept[file].path, kept[other].path, instance)
+    left_out = [LeftOut(kept[file].path(), kept[other].path(), instance)
                 for (file, _), (other, _), instance in notes.left_out]
     return Built(made, [kept[number] for number, _ in made.picks], skipped, left_out, notes)
 
@@ -267,13 +273,14 @@ def _member(folder: Optional[str], file_id: str) -> Source:
         if folder is None:
             raise FileNotFoundError("the file-set was read from bytes")
         return open_below(folder, parts)
-    return Source(os.path.join(folder or "", *parts), opened)
+    return Source(lambda: path_below(folder, parts), opened)
 
 
 def _of_sets(made: _bytes.Made, filesets: List[FileSet], notes: _bytes.Notes) -> Built:
     def member(place: Tuple[int, str]) -> Source:
         return _member(filesets[place[0]].path, place[1])
-    left_out = [LeftOut(member(file).path, member(other).path, instance) for file, other, instance in notes.left_out]
+    left_out = [LeftOut(member(file).path(), member(other).path(), instance)
+                for file, other, instance in notes.left_out]
     return Built(made, [member(place) for place in made.picks], [], left_out, notes)
 
 
