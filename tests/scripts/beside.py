@@ -16,6 +16,8 @@ CT = "1.2.840.10008.5.1.4.1.1.2"
 # The last line of a run that ended early.
 NAMED = re.compile(rb"dicomdir-parallel: [1-9][0-9]* of [1-9][0-9]* parts are in (.*/\.dicomdir-parallel\.\w{8}): "
                    rb"--resume goes on with them\n\Z")
+# Before a command: root may read what its rights allow, as others may.
+BOUND = ["setpriv", "--bounding-set=-dac_override,-dac_read_search", "--"] if os.geteuid() == 0 else []
 # What is run in place of the program. It notes the command, and waits in one that begins with the words of PAUSE_AT.
 NOTING = """#!/bin/sh
 printf '%s\\n' "$1 $2 $3" | head -n 1 >>"$CALLS"
@@ -104,10 +106,13 @@ class Beside:
         prepare(inside)
         return inside
 
-    def run(self, words, inside, environment, given=b"", umask=0o022, closed=(), full=False):
-        """Runs a command in a folder. Gives its status, output and errors."""
+    def run(self, words, inside, environment, given=b"", umask=0o022, closed=(), full=False, bound=False):
+        """Runs a command in a folder, bound to the rights of files where that is said. Gives its status, output and
+        errors."""
         if closed:
             words = ["sh", "-c", 'exec "$@" ' + " ".join(f"{number}>&-" for number in closed), "sh", *words]
+        if bound:
+            words = [*BOUND, *words]
         with open("/dev/full", "wb") as device:
             done = subprocess.run(words, cwd=inside, env=environment, input=given, timeout=600, umask=umask,
                                   stdout=device if full else subprocess.PIPE, stderr=subprocess.PIPE, check=False)

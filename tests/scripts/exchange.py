@@ -63,8 +63,8 @@ PATH=${PATH#*:}
 exec "$tool" "$@"
 """
 # What a run has in its folder.
-NAMES = ("from listed names states counts other linked piles log slots 1.names 1.states 1.claim 1.errors 1.fault 1 2 job "
-         "number status output errors").split()
+NAMES = ("from listed names states counts other linked piles log slots 1.names 1.states 1.skipped 1.claim 1.errors "
+         "1.fault 1 2 job number status output errors").split()
 
 
 SCRIPTS = ["dicomdir-parallel", "-j2"], ["dicomdir-slurm", "-j2", "--wait"]

@@ -61,14 +61,17 @@ def wait_for(is_there, seconds=120):
 class Run:
     """A run in a folder of its own, which waits in a phase, if one is named."""
 
-    def __init__(self, runs, name, phase=None, delay="0", out="OUT", terminal=False, hosts=False, more=None, wrapped=None):
+    def __init__(self, runs, name, phase=None, delay="0", out="OUT", terminal=False, hosts=False, more=None,
+                 wrapped=None, keep=(), lacks=()):
         self.runs, self.name, self.out, self.wrapped = runs, name, out, wrapped
+        self.names = [f"{at:03}" for at in range(16)]
         self.room = runs.work / f"signal-{name}"
         self.inside, self.calls = self.room / "w", f"{self.room}.calls"
         (self.room / "tmp").mkdir(parents=True)
         self.inside.mkdir()
-        for at in range(16):
-            (self.inside / f"{at:03}").write_bytes(image(f"1.2.3.{at + 1}", f"P{at % 3}"))
+        for at, source in enumerate(self.names):
+            if source not in lacks:
+                (self.inside / source).write_bytes(image(f"1.2.3.{at + 1}", f"P{at % 3}"))
         waits = PHASES.get(phase) or "never"
         tools = self.room / "tools"
         tools.mkdir()
@@ -78,7 +81,7 @@ class Run:
         environment = runs.environment(self.room, PAUSE_AT=waits, DELAY=delay, TMPDIR=str(self.room / "tmp"),
                                        PATH=f"{tools}:{os.environ['PATH']}", **(more or {}))
         (self.inside / "hosts").write_text(":\n")
-        words = [PARALLEL, "-j2", out, *(f"{at:03}" for at in range(16))]
+        words = [PARALLEL, "-j2", *keep, out, *self.names]
         words += ["--hosts", "hosts"] * hosts
         if phase == "reading":
             words += ["--files0-from", "-"]
@@ -156,18 +159,17 @@ class Run:
         if kept:
             self.goes_on()
 
-    def goes_on(self, change=None):
-        """Goes on with the parts that were kept, and gives how many were staged then."""
+    def goes_on(self, change=None, keep=()):
+        """Goes on with the parts that were kept, with -k or without, and gives how many were staged then."""
         folder = NAMED.search(self.errors)[1]
         if change:
             change(self.inside)
         shutil.rmtree(self.inside / "OUT", ignore_errors=True)
         pathlib.Path(self.calls).unlink(missing_ok=True)
         resume = os.fsdecode(os.path.relpath(folder, os.fsencode(self.inside)))
-        found = self.runs.run([PARALLEL, "-j3", "--resume", resume, self.out], self.inside,
+        found = self.runs.run([PARALLEL, "-j3", *keep, "--resume", resume, self.out], self.inside,
                               self.runs.environment(self.room))
-        wanted = self.runs.run([self.runs.program, "index", "ONE", *(f"{at:03}" for at in range(16))], self.inside,
-                               dict(os.environ))
+        wanted = self.runs.run([self.runs.program, "index", *keep, "ONE", *self.names], self.inside, dict(os.environ))
         if found != wanted or tree(self.inside / self.out) != tree(self.inside / "ONE"):
             self.runs.fault(f"{self.name}: --resume says {found}, or makes another file-set")
         self.looks_clean()
@@ -295,6 +297,36 @@ def try_killed_part(runs, number, always, hosts=False):
         runs.fault(f"{run.name}: {staged} parts were staged, and {lacking} and one were lacking")
 
 
+# What -k skips in a run, and what is changed before another one goes on with it, with -k or without; and how many parts
+# are staged again then, of which each has two sources.
+SKIPPED = {"as it was": ("-k", None, "-k", 0), "all there": ("-k", lambda inside: make(inside, "003"), "-k", 1),
+           "one more": ("-k", lambda inside: (inside / "009").unlink(), "-k", 1),
+           "another": ("-k", lambda inside: ((inside / "009").unlink(), make(inside, "003")), "-k", 2),
+           "no file": ("-k", lambda inside: ((inside / "009").unlink(), (inside / "009").mkdir()), "-k", 1),
+           "no longer": ("-k", None, "", 1), "first now": ("", lambda inside: (inside / "009").unlink(), "-k", 1)}
+
+
+def make(inside, name):
+    """Makes another source."""
+    (inside / name).write_bytes(image(f"1.2.4.{name}".replace(".0", ".1"), "P4"))
+
+
+def try_skipped(runs, case):
+    """Ends a run once all parts are staged, and goes on with it, where -k skips sources."""
+    before, change, after, staged = SKIPPED[case]
+    name = f"skipped-{case.replace(' ', '-')}"
+    run = Run(runs, name, "publishing", keep=before.split(), lacks=["003"] * bool(before))
+    if not run.has_come("publishing"):
+        runs.fault(f"{run.name}: it did not come there")
+    os.kill(run.pid, signal.SIGTERM)
+    if run.end() != -signal.SIGTERM or not NAMED.fullmatch(run.errors):
+        runs.fault(f"{run.name}: it ended otherwise: {run.errors}")
+        return
+    found = run.goes_on(change, after.split())
+    if found != staged:
+        runs.fault(f"{run.name}: {found} parts were staged, and not {staged}")
+
+
 def try_killed(runs, hosts):
     """Kills what has the parts staged. It is begun again."""
     run = Run(runs, f"killed{'-hosts' * hosts}", delay="0.3", hosts=hosts)
@@ -377,6 +409,7 @@ def try_signals(runs):
     with concurrent.futures.ThreadPoolExecutor(2 * (os.cpu_count() or 1)) as at_once:
         begun = [at_once.submit(what, runs, *words) for what, *words in tries]
         begun += [at_once.submit(try_lost, runs, kind) for kind in LOST]
+        begun += [at_once.submit(try_skipped, runs, case) for case in SKIPPED]
         begun += [at_once.submit(try_killed, runs, hosts) for hosts in {False, runs.hosts}]
         begun += [at_once.submit(try_progress, runs), at_once.submit(try_refused, runs)]
         begun += [at_once.submit(try_killed_part, runs, number, always) for always in (False, True)

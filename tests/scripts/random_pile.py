@@ -1,10 +1,12 @@
 #!/usr/bin/python3 -B
-"""Random piles: rivals, names of any bytes, texts, repeated and absent sources, any order. For parallel and slurm.
+"""Random piles: rivals, names of any bytes, texts, repeated and absent sources, any order. For parallel, slurm and
+staged.
 
     tests/scripts/random_pile.py FOLDER SEED
 
 It writes the files to the folder, with 'list', the list of their names, and prints words of index, each on a line.
 """
+import os
 import pathlib
 import random
 import sys
@@ -34,14 +36,23 @@ def words(chance):
     return chance.choice([[], ["--strict"], ["--uid", "2.25.7"], ["--max-bytes", "9000"]])
 
 
+def keep(chance, names):
+    """-k, or nothing. With it a name that is not UTF-8, which it adds to many, is a source that is skipped."""
+    words_of = ["-k"] * (chance.random() < 0.4)
+    if chance.random() < (0.5 if words_of else 0.03):
+        names.insert(chance.randrange(len(names) + 1), "\udcff")
+    return words_of
+
+
 def main():
     chance, folder = random.Random(int(sys.argv[2])), pathlib.Path(sys.argv[1])
     files, names = make(chance)
+    given = keep(chance, names) + words(chance)
     folder.mkdir()
     for name, data in files.items():
         (folder / name).write_bytes(data)
-    (folder / "list").write_bytes(b"".join(name.encode() + b"\0" for name in names))
-    print("\n".join(words(chance)))
+    (folder / "list").write_bytes(b"".join(os.fsencode(name) + b"\0" for name in names))
+    print("\n".join(given))
 
 
 if __name__ == "__main__":
