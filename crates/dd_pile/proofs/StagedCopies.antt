@@ -84,7 +84,7 @@ pub copy_counts : (found : Answer) → has_copy (as_listed found) ≡ true
 copy_counts (Ok version) = refl
 copy_counts (Err fault) = refl
 
--- ---- a source that was not read, as it is listed whatever stands
+-- ---- a source that was not read: what the list says of it holds in any files
 
 module _ (pile : List ℕ) (number : ℕ) (source : StageSource) (listed : Source)
     (is : (old new : Held) → IsStaged pile number source listed old new) where
@@ -116,7 +116,7 @@ module _ (pile : List ℕ) (number : ℕ) (source : StageSource) (listed : Sourc
       cut_stands h.starts.path h.bytes a c h.starts.place h.starts.free
       (held_published h.starts.path h.bytes a h.start b c h.starts.started h.written closed)
 
--- ---- what holds of a source as it is listed holds of what is answered
+-- ---- the answer is the item of the list, so what holds of the item holds of the answer
 
 pub view_so : {E : Type 0} (r : Result Staged E) (listed : Source) (P : Source → Type 0)
     → IfOk r (λ staged. source_view staged ≡ listed) → (IsOk r → P listed)

@@ -33,7 +33,7 @@ pub record IsCopied (pile : List ℕ) (number : ℕ) (source : StageSource) (siz
   pub counted : size ≡ length copy
   pub of : IsCopyOf (new.bytes_at source.path.now) copy answer
 
--- what is found as it is listed
+-- what the list says of a copied source: its version, or the fault of its file
 abbrev pub as_listed : Answer → Result Parts SourceFault
 as_listed (Ok parts) = Ok parts
 as_listed (Err fault) = Err (Key fault)

@@ -123,7 +123,7 @@ fn row_of(fault: &KeyFault) -> usize {
     }
 }
 
-/// Shows what was kept, and what became of the sources, and in words also what to do about those that were skipped.
+/// Shows what was kept, and counts the sources. A text also says what to do about skipped ones.
 pub(crate) fn show_sum<F: Files + Hints>(sum: &Sum, style: Style, files: &mut F)
     ensures kept { F.held files.new ≡ F.held files.old }
 {

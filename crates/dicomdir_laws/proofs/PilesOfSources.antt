@@ -87,7 +87,7 @@ copied_of pile number size source (Err Absent) old new read is = let no : false 
 copied_of pile number size source (Err Unread) old new read is = let no : false ≡ true = read in absurd (cc)
 copied_of pile number size source (Err (BadName n)) old new read is = let no : false ≡ true = read in absurd (cc)
 
--- ---- the paths of those that were read
+-- ---- the paths of the sources that were read
 
 module _ (path : Text) where
   in_front : (read : Bool) (first : Text) (rest : List Text) → read ≡ true → first ≡ path

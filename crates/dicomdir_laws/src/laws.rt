@@ -41,9 +41,8 @@ pub fn a_set_merged_again_keeps_its_directory()
         → LeaveOneDirectory verb Merge given others new last }
 {}
 
-/// Proves that publishing piles leaves the directory that an index leaves, under the same label, of the sources that
-/// `stage` read: of all, or with `--keep-going` of those that it did not skip. They and the piles are as they were
-/// then.
+/// Proves that publishing piles leaves the same directory as an index of their sources, under the same label. Sources
+/// that `stage --keep-going` skipped are not among these. Sources and piles are as they were when they were staged.
 pub fn a_published_pile_is_the_index_of_its_sources()
     ensures { (given others : List Row) (old new first last : Held)
         → Makes Publish given old new
