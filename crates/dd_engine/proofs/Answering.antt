@@ -11,16 +11,17 @@ use Rattle.dd_keys.specs.Answers.{Answers, AnswersReader}
 use Rattle.dd_keys.specs.Kept.{digested_by}
 use Rattle.dd_keys.specs.declared.fault.KeyFault.{KeyFault}
 use Rattle.dd_keys.specs.declared.fault.KeyFault.TheVariants.{FileTooLong}
+use Rattle.dd_keys.specs.Sources.{Answer, AnswersSource, IsOfSource}
 use Rattle.dd_version.specs.Copies.{with_digest}
 use Rattle.dd_version.specs.declared.parts.Parts.{Parts}
 use Rattle.dd_engine.specs.Batches.{HoldsOpen, IsOpen}
-use Rattle.dd_engine.specs.Indexing.{Answer, Sourced, accepted_from, accepted, skipped_from, versions_of}
+use Rattle.dd_engine.specs.Indexing.{Sourced, accepted_from, accepted, skipped_from, versions_of}
 use Rattle.dd_engine.specs.declared.batch.Batch.{Batch}
 use Rattle.dd_engine.specs.declared.engine_fault.EngineFault.{EngineFault}
 use Rattle.dd_engine.specs.declared.engine_fault.EngineFault.TheVariants.{Memory, Absent, Unread, Plan}
 use Rattle.dd_engine.specs.declared.sources.Sources.{Sources}
 use Rattle.dd_engine.specs.Supply.{AllStay, OthersStay, StayBelow, EndsWith, added}
-use Rattle.dd_engine.specs.Supply.{AnswersSource, AreAnswers, HasGivenAll, Holds, IsAnswer, IsOfSource}
+use Rattle.dd_engine.specs.Supply.{AreAnswers, HasGivenAll, Holds, IsAnswer}
 use Rattle.dd_engine.proofs.Settling.{none_open, other_next}
 
 -- ---- a reader's answer is its source's answer

@@ -2,9 +2,10 @@
 use Rattle.std.proofs.Common.{◌≡◌, ◌∙◌, ◌+◌, ℕ, suc, List, [], ◌∷◌, ◌++◌, Ok, Err, ap, arith, length, map, refl, sym}
 use Rattle.std.proofs.lemmas.List.{append-nil, map-append}
 use Rattle.dd_keys.specs.declared.fault.KeyFault.{KeyFault}
+use Rattle.dd_keys.specs.Sources.{Answer}
 use Rattle.dd_version.specs.declared.parts.Parts.{Parts}
 use Rattle.dd_engine.specs.Found.{Found, HasFound}
-use Rattle.dd_engine.specs.Indexing.{Answer, Sourced, accepted, accepted_from, skipped, skipped_from, versions_of}
+use Rattle.dd_engine.specs.Indexing.{Sourced, accepted, accepted_from, skipped, skipped_from, versions_of}
 use Rattle.dd_engine.specs.Supply.{Holds}
 use Rattle.dd_engine.specs.declared.sources.Sources.{Sources}
 use Rattle.dd_engine.proofs.Answering.{accepted_more, skipped_more}

@@ -13,6 +13,7 @@ use Rattle.dd_keys.specs.Faults.{IsWantOfMemory, SaysMemory}
 use Rattle.dd_keys.specs.Versions.{IsVersion}
 use Rattle.dd_keys.specs.declared.fault.KeyFault.{KeyFault}
 use Rattle.dd_keys.specs.declared.fault.KeyFault.TheVariants.{File, Memory}
+use Rattle.dd_keys.specs.Sources.{Answer, AnswersSource, IsOfSource}
 use Rattle.dd_version.specs.declared.parts.Parts.{Parts}
 use Rattle.dd_part10.specs.declared.fault.FileFault.TheVariants.{Meta, Set}
 use Rattle.dd_part10.specs.Memory.{SetWants}
@@ -26,9 +27,9 @@ use Rattle.dd_engine.specs.declared.engine_fault.EngineFault.{EngineFault}
 use Rattle.dd_engine.specs.declared.engine_fault.EngineFault.TheVariants.{Plan}
 use Rattle.dd_engine.specs.Choosing.{label_for, refusal_for}
 use Rattle.dd_engine.specs.Indexed.{IsIndexed}
-use Rattle.dd_engine.specs.Indexing.{Answer, accepted, accepted_from, best_of_sources, versions_of}
+use Rattle.dd_engine.specs.Indexing.{accepted, accepted_from, best_of_sources, versions_of}
 use Rattle.dd_engine.specs.SameVersions.{Agree, AreSamePlans, AreKnown, IndexesKnown, IsVersionThere}
-use Rattle.dd_engine.specs.Supply.{AnswersSource, AreAnswers, IsAnswer, IsOfSource}
+use Rattle.dd_engine.specs.Supply.{AreAnswers, IsAnswer}
 
 -- ---- the versions among answers
 

@@ -25,7 +25,8 @@ use Rattle.dd_engine.specs.declared.notes.NotedFault.{NotedFault}
 use Rattle.dd_engine.specs.Choosing.{label_for}
 use Rattle.dd_engine.specs.Indexed.{Indexes, IsWithin}
 use Rattle.dd_engine.specs.IndexNotes.{ConflictsIn, FindsBoth, NotesIndex}
-use Rattle.dd_engine.specs.Indexing.{Answer, accepted, accepted_from, best_of_sources, versions_of}
+use Rattle.dd_keys.specs.Sources.{Answer}
+use Rattle.dd_engine.specs.Indexing.{accepted, accepted_from, best_of_sources, versions_of}
 use Rattle.dd_engine.specs.Noting.{AreBelow, AreLeftOut, IsBelow, IsConflictOf, LeftAs, both, first_by, first_of}
 use Rattle.dd_engine.specs.Noting.{is_other, left_as}
 use Rattle.dd_engine.specs.Picking.{FileKey, files_of, found_by}

@@ -2,10 +2,11 @@
 use Rattle.std.specs.Prelude.{◌≡◌, ◌<◌, ◌≤◌, ◌+◌, ℕ, suc, List, [], ◌∷◌, length, map, All, Ok, Err}
 use Rattle.std.proofs.lemmas.List.Elements.{All-nil, All-cons}
 use Rattle.dd_keys.specs.declared.fault.KeyFault.{KeyFault}
+use Rattle.dd_keys.specs.Sources.{Answer}
 use Rattle.std.specs.List.{AllByRecursion, zip}
 use Rattle.std.proofs.Common.{refl, ap, ap₂, ◌∙◌, arith}
 use Rattle.dd_version.specs.declared.parts.Parts.{Parts}
-use Rattle.dd_engine.specs.Indexing.{Answer, Sourced, accepted_from, skipped_from}
+use Rattle.dd_engine.specs.Indexing.{Sourced, accepted_from, skipped_from}
 use Rattle.dd_engine.specs.Indexing.{versions_of}
 use Rattle.dd_engine.specs.Picking.{files_of}
 

@@ -6,9 +6,10 @@ use Rattle.dd_slots.specs.declared.slot.Slot.{Slot}
 use Rattle.dd_version.specs.Copies.{with_digest}
 use Rattle.dd_version.specs.declared.parts.Parts.{Parts}
 use Rattle.dd_keys.specs.Kept.{digested_by}
+use Rattle.dd_keys.specs.Sources.{Answer}
 use Rattle.dd_engine.specs.declared.batch.Batch.{Batch}
 use Rattle.dd_engine.specs.declared.sources.Sources.{Sources}
-use Rattle.dd_engine.specs.Indexing.{Answer, accepted, skipped, versions_of}
+use Rattle.dd_engine.specs.Indexing.{accepted, skipped, versions_of}
 use Rattle.dd_engine.specs.Supply.{IsAnswer}
 
 -- ---- versions of a batch

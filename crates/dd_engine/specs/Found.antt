@@ -1,7 +1,8 @@
 -- What was found of sources that were read before.
 use Rattle.std.specs.Prelude.{◌≡◌, ℕ, List, map}
-use Rattle.dd_engine.specs.Indexing.{Answer, accepted, skipped, versions_of}
+use Rattle.dd_engine.specs.Indexing.{accepted, skipped, versions_of}
 use Rattle.dd_keys.specs.declared.fault.KeyFault.{KeyFault}
+use Rattle.dd_keys.specs.Sources.{Answer}
 use Rattle.dd_version.specs.declared.parts.Parts.{Parts}
 
 -- versions with the numbers of their sources, and the sources without one

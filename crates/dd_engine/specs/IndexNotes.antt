@@ -10,7 +10,8 @@ use Rattle.dd_engine.specs.declared.notes.ConflictingFiles.{ConflictingFiles}
 use Rattle.dd_engine.specs.declared.notes.LeftOut.{LeftOut}
 use Rattle.dd_engine.specs.declared.notes.NotedFault.{NotedFault}
 use Rattle.dd_engine.specs.Indexed.{Indexes, IsIndexed}
-use Rattle.dd_engine.specs.Indexing.{Answer, accepted, best_of_sources, versions_of}
+use Rattle.dd_keys.specs.Sources.{Answer}
+use Rattle.dd_engine.specs.Indexing.{accepted, best_of_sources, versions_of}
 use Rattle.dd_engine.specs.Noting.{AreLeftOut, IsConflictOf, IsFound}
 use Rattle.dd_engine.specs.PatientNames.{AreNamed, NamedPatient, with_kept_digest}
 use Rattle.dd_engine.specs.Supply.{AreAnswers}

@@ -11,7 +11,8 @@ use Rattle.dd_engine.specs.declared.engine.Indexed.{Indexed}
 use Rattle.dd_engine.specs.declared.engine_fault.EngineFault.{EngineFault}
 use Rattle.dd_engine.specs.declared.engine_fault.EngineFault.TheVariants.{Memory, Absent, Unread, Plan}
 use Rattle.dd_engine.specs.Choosing.{label_for, refusal_for}
-use Rattle.dd_engine.specs.Indexing.{Answer, accepted, best_of_sources, skipped}
+use Rattle.dd_keys.specs.Sources.{Answer}
+use Rattle.dd_engine.specs.Indexing.{accepted, best_of_sources, skipped}
 use Rattle.dd_engine.specs.Picking.{ArePicked, files_of}
 use Rattle.dd_engine.specs.Supply.{AllStay, AreAnswers, EndsWith}
 

@@ -1,15 +1,12 @@
 -- What an index reads of its sources: of each the answer for its bytes, the versions of those that have one, and the
 -- best of these.
-use Rattle.std.specs.Prelude.{ℕ, suc, List, [], ◌∷◌, map, Result, Ok, Err}
+use Rattle.std.specs.Prelude.{ℕ, suc, List, [], ◌∷◌, map, Ok, Err}
 use Rattle.dd_catalogue.specs.Versions.{best_of}
+use Rattle.dd_keys.specs.Sources.{Answer}
 use Rattle.dd_keys.specs.declared.fault.KeyFault.{KeyFault}
 use Rattle.dd_version.specs.declared.parts.Parts.{Parts}
 
 -- ---- what was read
-
--- the version of a source, or why it has none
-abbrev pub Answer : Type 0
-Answer = Result Parts KeyFault
 
 -- a version and the number of its source
 abbrev pub Sourced : Type 0

@@ -4,7 +4,7 @@ use Rattle.dd_engine.specs.declared.readings.Readings.{Readings}
 use Rattle.dd_engine.specs.declared.supply.Supply.{Ghosts as SupplyOf}
 use Rattle.dd_engine.specs.Batches.{HoldsOpen}
 use Rattle.dd_engine.specs.PastFailures.{IsReading, Reading, absent_in, answer_of}
-use Rattle.dd_engine.specs.Indexing.{Answer}
+use Rattle.dd_keys.specs.Sources.{Answer}
 use Rattle.dd_engine.specs.Supply.{OthersStay}
 
 module _ {S In : Type 0} (supply : SupplyOf S In) where

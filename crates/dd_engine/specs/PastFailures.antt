@@ -2,6 +2,7 @@
 use Rattle.std.specs.Prelude.{◌≡◌, ℕ, List, [], ◌∷◌, length, map, slice_get, Option, None, IfSome, Result, Ok, Err}
 use Rattle.dd_elem.specs.Device.{counted, HasFailed}
 use Rattle.dd_keys.specs.declared.fault.KeyFault.TheVariants.{Read}
+use Rattle.dd_keys.specs.Sources.{Answer}
 use Rattle.dd_layout.specs.Limits.{Limits}
 use Rattle.dd_engine.specs.declared.choice.Choice.{Choice}
 use Rattle.dd_engine.specs.declared.engine_fault.EngineFault.{EngineFault}
@@ -11,7 +12,6 @@ use Rattle.dd_engine.specs.declared.past_failures.PastFailures.{PastFailures}
 use Rattle.dd_engine.specs.declared.supply.Supply.{Ghosts as SupplyOf}
 use Rattle.dd_engine.specs.Indexed.{Indexes}
 use Rattle.dd_engine.specs.IndexNotes.{ConflictsIn, NotesIndex}
-use Rattle.dd_engine.specs.Indexing.{Answer}
 use Rattle.dd_engine.specs.Supply.{AllStay, HasGivenAll, IsAnswer, OthersStay}
 
 -- ---- what became of one source

@@ -1,15 +1,12 @@
 -- Sources by number: how their counts change, and what reading all of them gives.
-use Rattle.std.specs.Prelude.{◌≡◌, ◌≢◌, ◌↔◌, ◌+◌, ◌-◌, ◌<◌, ◌≤◌, min, ℕ, List, length, map, slice_get}
-use Rattle.std.specs.Prelude.{Option, IfSome, Result, Err, IfErr, IsErr, IsOk}
+use Rattle.std.specs.Prelude.{◌≡◌, ◌≢◌, ◌+◌, ◌-◌, ◌<◌, ◌≤◌, min, ℕ, List, length, map, slice_get}
+use Rattle.std.specs.Prelude.{Option, IfSome, Result, IfErr, IsErr, IsOk}
 use Rattle.dd_elem.specs.Device.{counted, last_count, HasFailed, IsLive}
-use Rattle.dd_keys.specs.Answers.{Answers}
-use Rattle.dd_keys.specs.declared.fault.KeyFault.{KeyFault}
-use Rattle.dd_keys.specs.declared.fault.KeyFault.TheVariants.{Read, FileTooLong}
-use Rattle.dd_keys.specs.Faults.{SaysMemory}
+use Rattle.dd_keys.specs.Sources.{AnswersSource, IsOfSource, Answer}
 use Rattle.dd_engine.specs.declared.engine_fault.EngineFault.{EngineFault}
 use Rattle.dd_engine.specs.declared.engine_fault.EngineFault.TheVariants.{Memory, Absent, Unread, Plan}
 use Rattle.dd_engine.specs.declared.sources.Sources.{Sources}
-use Rattle.dd_engine.specs.Indexing.{Answer, accepted, skipped, versions_of}
+use Rattle.dd_engine.specs.Indexing.{accepted, skipped, versions_of}
 
 -- ---- the counts of a supply, by the number of the source
 
@@ -92,17 +89,6 @@ EndsWith (Unread at) sources refusals refused unread failed = (at < sources)
 EndsWith (Plan fault) sources refusals refused unread failed = ⊥
 
 -- ---- the answers for sources
-
--- the fault says neither that a read failed nor that an allocation was refused
-abbrev pub IsOfSource : KeyFault → Type 0
-IsOfSource fault = (fault ≢ Read) × ¬ SaysMemory fault
-
--- the answer for a source of these bytes, of which it may have `limit`
-pub record AnswersSource (limit : ℕ) (file : List ℕ) (answer : Answer) : Type 0 where
-  -- it is too long exactly where it has more
-  pub long : (answer ≡ Err FileTooLong) ↔ (limit < length file)
-  -- and else the answer is that for the bytes of a file
-  pub fits : length file ≤ limit → Answers file answer
 
 -- the answer for a source, whether its bytes are known or not
 pub record IsAnswer (limit : ℕ) (contents : Option (List ℕ)) (answer : Answer) : Type 0 where

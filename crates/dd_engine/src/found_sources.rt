@@ -1,7 +1,7 @@
 ghost use Rattle.std.specs.Prelude.{◌++◌, ◌∷◌, List, [], IfErr, IfOk, OnOk, length};
 ghost use Rattle.dd_engine.specs.Found.{HasFound};
 ghost use Rattle.dd_engine.specs.Indexed.{IsWithin};
-ghost use Rattle.dd_engine.specs.Indexing.{Answer};
+ghost use Rattle.dd_keys.specs.Sources.{Answer};
 ghost use Rattle.dd_engine.specs.IndexNotes.{FindsBoth, NotesIndex};
 ghost use Rattle.dd_engine.specs.Noting.{AreBelow, IsBelow};
 

@@ -1,6 +1,6 @@
 ghost use Rattle.std.specs.Prelude.{◌≡◌, ◌+◌, List, IfErr, IfOk, IsOk, length};
 ghost use Rattle.dd_engine.specs.Indexed.{IsNamed, IsWithin, ReadsAll};
-ghost use Rattle.dd_engine.specs.Indexing.{Answer};
+ghost use Rattle.dd_keys.specs.Sources.{Answer};
 ghost use Rattle.dd_engine.specs.IndexNotes.{FindsBoth, NotesIndex, NotesSupply, unnoted};
 ghost use Rattle.dd_engine.specs.Noting.{AreBelow, IsBelow};
 ghost use Rattle.dd_engine.specs.Supplies.{AllGiven, AllThere, IndexingEndsBy};

@@ -1,7 +1,7 @@
 ghost use Rattle.std.specs.Prelude.{◌≡◌, ◌<◌, ◌+◌, ◌++◌, ◌∷◌, List, [], length, Err, IfErr, IfOk, IsOk, OnOk};
 ghost use Rattle.dd_keys.specs.declared.fault.KeyFault.TheVariants.{Read};
+ghost use Rattle.dd_keys.specs.Sources.{Answer};
 ghost use Rattle.dd_engine.specs.Batches.{HasRoom, HoldsOpen};
-ghost use Rattle.dd_engine.specs.Indexing.{Answer};
 ghost use Rattle.dd_engine.specs.Passing.{GrowsBy};
 ghost use Rattle.dd_engine.specs.PastFailures.{AreAllReadings, IsOfOne, Reading, absent_in, answers_of};
 ghost use Rattle.dd_engine.specs.Supply.{AllStay, EachGrows, Holds, IsUsed};

@@ -4,11 +4,11 @@ ghost use Rattle.sha2.specs.Sha256.{sha256};
 ghost use Rattle.dd_slots.specs.Slots.{IsSlotOf};
 ghost use Rattle.dd_elem.specs.Device.{IsLive};
 ghost use Rattle.dd_keys.specs.Kept.{digested_by};
+ghost use Rattle.dd_keys.specs.Sources.{Answer, IsOfSource};
 ghost use Rattle.dd_engine.specs.Batches.{HasRoom, HoldsOpen, IsOpenAnswer};
-ghost use Rattle.dd_engine.specs.Indexing.{Answer};
 ghost use Rattle.dd_engine.specs.PastFailures.{FailsSource};
 ghost use Rattle.dd_engine.specs.Supplies.{AllGiven, AllThere, ReadingEndsBy};
-ghost use Rattle.dd_engine.specs.Supply.{AllStay, AreAnswers, EachGrows, HasGivenAll, Holds, IsOfSource, IsUsed};
+ghost use Rattle.dd_engine.specs.Supply.{AllStay, AreAnswers, EachGrows, HasGivenAll, Holds, IsUsed};
 ghost use Rattle.dd_engine.specs.Supply.{OthersStay};
 
 use crate::batch::Batch;

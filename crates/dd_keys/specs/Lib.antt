@@ -3,6 +3,7 @@ pub mod Digested
 pub mod Faults
 pub mod Kept
 pub mod RowViews
+pub mod Sources
 pub mod Summaries
 pub mod Table
 pub mod Values

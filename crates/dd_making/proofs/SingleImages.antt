@@ -38,7 +38,8 @@ use Rattle.dd_engine.specs.declared.merge_fault.MergeFault.{MergeFault}
 use Rattle.dd_engine.specs.declared.merge_fault.MergeFault.TheVariants as merge
 use Rattle.dd_engine.specs.Choosing.{label_for, refusal_for}
 use Rattle.dd_engine.specs.Indexed.{Indexes}
-use Rattle.dd_engine.specs.Indexing.{Answer, accepted, best_of_sources, versions_of}
+use Rattle.dd_keys.specs.Sources.{Answer}
+use Rattle.dd_engine.specs.Indexing.{accepted, best_of_sources, versions_of}
 use Rattle.dd_engine.specs.Merging.{AreOwn, IsFirst, IsForeign, IsOwn, Merges, SetListing, held_in, numbered, versions_in}
 use Rattle.dd_engine.specs.Merging.{withdrawn_in}
 use Rattle.dd_engine.specs.SameVersions.{AreSamePlans}

@@ -7,7 +7,8 @@ use Rattle.dd_engine.specs.declared.engine_fault.EngineFault.TheVariants as engi
 use Rattle.dd_engine.specs.declared.merge.Merged.{Merged}
 use Rattle.dd_engine.specs.declared.merge_fault.MergeFault.{MergeFault}
 use Rattle.dd_engine.specs.declared.merge_fault.MergeFault.TheVariants as merge
-use Rattle.dd_engine.specs.Indexing.{Answer, accepted, versions_of}
+use Rattle.dd_keys.specs.Sources.{Answer}
+use Rattle.dd_engine.specs.Indexing.{accepted, versions_of}
 use Rattle.dd_engine.specs.SameVersions.{AreSamePlans}
 use Rattle.dd_making.specs.Images.{IsOfVersion}
 

@@ -8,7 +8,7 @@ ghost use Rattle.dd_engine.specs.declared.engine_fault.EngineFault.{EngineFault}
 ghost use Rattle.dd_engine.specs.declared.merge.Merged.{Merged};
 ghost use Rattle.dd_engine.specs.declared.merge_fault.MergeFault.{MergeFault};
 ghost use Rattle.dd_engine.specs.Indexed.{Indexes};
-ghost use Rattle.dd_engine.specs.Indexing.{Answer};
+ghost use Rattle.dd_keys.specs.Sources.{Answer};
 ghost use Rattle.dd_engine.specs.Merging.{Merges};
 ghost use Rattle.dd_making.specs.Indexes.{AreOfSources, PlansAgree};
 

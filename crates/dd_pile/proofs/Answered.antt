@@ -4,8 +4,6 @@ use Rattle.std.proofs.Common.{Option, None, Some, Ok, Err, take, refl, sym, ap, 
 use Rattle.std.proofs.lemmas.List.{length-append, take_all, take_at}
 use Rattle.std.specs.Io.KnownBytes.{Consumes}
 use Rattle.std.specs.Prelude.{IfErr, IfSome, IsSome}
-use Rattle.dd_engine.specs.Indexing.{Answer}
-use Rattle.dd_engine.specs.Supply.{AnswersSource, IsOfSource}
 use Rattle.dd_files.specs.Files.{Held}
 use Rattle.dd_filing.specs.Ahead.{ahead_limit}
 use Rattle.dd_filing.specs.Copies.{IsFoundIn, length_of}
@@ -14,6 +12,7 @@ use Rattle.dd_filing.specs.Taken.{Taken}
 use Rattle.dd_filing.specs.declared.places.Ahead.TheVariants as known
 use Rattle.dd_keys.specs.Answers.{Answers, AnswersReader}
 use Rattle.dd_keys.specs.declared.fault.KeyFault.TheVariants.{FileTooLong}
+use Rattle.dd_keys.specs.Sources.{Answer, AnswersSource, IsOfSource}
 use Rattle.dd_pile.proofs.FilesRead.{file_given}
 use Rattle.dd_pile.specs.Copies.{IsCopyOf, IsKnown, most_of_source}
 

@@ -5,8 +5,7 @@ use Rattle.std.proofs.Common.{ap, get_or, map, take, subst, arith, inl, inr, ◌
 use Rattle.std.proofs.lemmas.List.{length-map, length_push, map_push, take_more}
 use Rattle.std.specs.List.{AllByRecursion}
 use Rattle.std.specs.Prelude.{IfErr, IfOk, IfSome, IsOk, option_map, slice_get}
-use Rattle.dd_engine.specs.Indexing.{Answer}
-use Rattle.dd_engine.specs.Supply.{IsOfSource}
+use Rattle.dd_keys.specs.Sources.{Answer, IsOfSource}
 use Rattle.dd_files.proofs.FileLaws.{file_here, file_there}
 use Rattle.dd_files.proofs.KeptFiles.{all_then, held_published, new_keeps}
 use Rattle.dd_files.specs.Files.{Held, ended, published, stored}

@@ -2,8 +2,7 @@
 use Rattle.std.specs.Prelude.{◌≡◌, ◌≤◌, ◌+◌, ℕ, List, true, length, take, Option, Some, IfErr, IfSome, option_map}
 use Rattle.std.specs.Prelude.{Result, Ok, Err}
 use Rattle.dd_elem.specs.declared.device.Read.{Ghosts as ReadOf}
-use Rattle.dd_engine.specs.Indexing.{Answer}
-use Rattle.dd_engine.specs.Supply.{AnswersSource, IsOfSource}
+use Rattle.dd_keys.specs.Sources.{Answer, AnswersSource, IsOfSource}
 use Rattle.dd_files.specs.Files.{Held, grown, started}
 use Rattle.dd_filing.specs.Ahead.{ahead_limit}
 use Rattle.dd_filing.specs.Taken.{Taken}

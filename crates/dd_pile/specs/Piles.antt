@@ -2,7 +2,7 @@
 use Rattle.std.specs.Prelude.{◌≡◌, ◌≢◌, ℕ, ◌+◌, ◌<◌, ◌≤◌, ◌^◌}
 use Rattle.std.specs.Prelude.{List, length, map, min, slice_get, Option, None, Some, option_map, true, false}
 use Rattle.std.specs.Prelude.{Result, Ok, Err}
-use Rattle.dd_engine.specs.Indexing.{Answer}
+use Rattle.dd_keys.specs.Sources.{Answer}
 use Rattle.dd_version.specs.declared.parts.Parts.{Parts}
 use Rattle.dd_staged.specs.declared.source_fault.SourceFault.{SourceFault}
 use Rattle.dd_staged.specs.declared.source_fault.SourceFault.TheVariants.{BadName, Key}

@@ -10,10 +10,11 @@ use Rattle.std.specs.Prelude.{All, IfOk, IfSome, IsSomeAnd, min, sum_by, unwrap_
 use Rattle.dd_elem.specs.Device.{last_count}
 use Rattle.dd_catalogue.specs.Harmony.{harmonised}
 use Rattle.dd_engine.specs.Choosing.{label_for}
-use Rattle.dd_engine.specs.Indexing.{Answer, accepted, best_of_sources}
+use Rattle.dd_keys.specs.Sources.{Answer, AnswersSource}
+use Rattle.dd_engine.specs.Indexing.{accepted, best_of_sources}
 use Rattle.dd_engine.specs.IndexNotes.{NotesIndex, NotesSupply}
 use Rattle.dd_engine.specs.PastFailures.{IsReading, NotesPast, Reading, answers_of}
-use Rattle.dd_engine.specs.Supply.{AnswersSource, HasGivenAll, IsAnswer}
+use Rattle.dd_engine.specs.Supply.{HasGivenAll, IsAnswer}
 use Rattle.dd_engine.specs.declared.choice.Choice.{Choice}
 use Rattle.dd_engine.specs.declared.noted_index.NotedIndex.{NotedIndex}
 use Rattle.dd_engine.specs.declared.past_failures.PastFailures.{PastFailures}

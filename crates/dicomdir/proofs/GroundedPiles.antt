@@ -6,7 +6,7 @@ use Rattle.dd_engine.specs.declared.engine_fault.EngineFault.TheVariants as engi
 use Rattle.dd_engine.specs.declared.noted_index.NotedIndex.{NotedIndex}
 use Rattle.dd_engine.specs.Found.{HasFound}
 use Rattle.dd_engine.specs.Indexed.{Indexes}
-use Rattle.dd_engine.specs.Indexing.{Answer}
+use Rattle.dd_keys.specs.Sources.{Answer}
 use Rattle.dd_file_set.specs.Refusal.{IsStrict}
 use Rattle.dd_file_set.specs.declared.refusal.ProgramFault.{ProgramFault}
 use Rattle.dd_file_set.specs.declared.refusal.ProgramFault.TheVariants.{Absent, BadName, BadStage, Changed, Create, Dir}

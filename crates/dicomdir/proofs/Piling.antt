@@ -4,7 +4,7 @@ use Rattle.std.proofs.Common.{arith, get_or, inl, inr, length, map, refl, string
 use Rattle.std.proofs.lemmas.List.{get_or_append_left, get_or_push, length-append, length-map, length_push, map_push}
 use Rattle.std.proofs.lemmas.List.{length-take-le, take_more}
 use Rattle.dd_engine.specs.Found.{HasFound}
-use Rattle.dd_engine.specs.Indexing.{Answer}
+use Rattle.dd_keys.specs.Sources.{Answer}
 use Rattle.dd_files.specs.Files.{Held}
 use Rattle.dd_line.specs.Line.{words_of}
 use Rattle.dd_pile.specs.Lists.{IfList}

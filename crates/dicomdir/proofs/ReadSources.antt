@@ -11,7 +11,7 @@ use Rattle.dd_engine.specs.declared.notes.NotedFault.{NotedFault}
 use Rattle.dd_engine.specs.declared.past_failures.PastFailures.{PastFailures}
 use Rattle.dd_engine.specs.declared.supply.Supply.{Ghosts as SupplyOf}
 use Rattle.dd_engine.specs.Indexed.{Indexes as Plans, ReadsAll}
-use Rattle.dd_engine.specs.Indexing.{Answer}
+use Rattle.dd_keys.specs.Sources.{Answer}
 use Rattle.dd_engine.specs.IndexNotes.{NotesFault, NotesIndex, NotesSupply}
 use Rattle.dd_engine.specs.PastFailures.{AreAllReadings, AreReadings, IsReading, NotesPast, Reading, RefusesPast}
 use Rattle.dd_engine.specs.PastFailures.{answers_of}

@@ -1,6 +1,6 @@
 -- A source of which a version is known has no more bytes than one may have.
 use Rattle.std.proofs.Common.{◌<◌, ◌≤◌, ℕ, List, Ok, arith, length}
-use Rattle.dd_engine.specs.Supply.{AnswersSource}
+use Rattle.dd_keys.specs.Sources.{AnswersSource}
 use Rattle.dd_version.specs.declared.parts.Parts.{Parts}
 use Rattle.dicomdir.specs.Indexes.{most_of_source}
 

@@ -4,8 +4,9 @@ use Rattle.std.proofs.Common.{append-nil, append_assoc, arith, length, map, refl
 use Rattle.std.proofs.lemmas.List.{length-append}
 use Rattle.std.specs.List.{AllByRecursion}
 use Rattle.std.specs.Prelude.{◌↔◌, IfErr, if◌then◌else◌}
-use Rattle.dd_engine.specs.Indexing.{Answer, skipped_from}
+use Rattle.dd_engine.specs.Indexing.{skipped_from}
 use Rattle.dd_keys.specs.declared.fault.KeyFault.{KeyFault}
+use Rattle.dd_keys.specs.Sources.{Answer}
 use Rattle.dd_keys.specs.declared.fault.KeyFault.TheVariants as keys
 use Rattle.dd_staged.specs.Sources.{Source}
 use Rattle.dicomdir.proofs.PastFailures.{read_fault}

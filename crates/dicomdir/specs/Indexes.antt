@@ -11,13 +11,12 @@ use Rattle.dd_engine.specs.declared.engine.Indexed.{Indexed}
 use Rattle.dd_engine.specs.declared.noted_index.NotedIndex.{NotedIndex}
 use Rattle.dd_engine.specs.Indexed.{IsIndexed}
 use Rattle.dd_engine.specs.IndexNotes.{NotesIndex}
-use Rattle.dd_engine.specs.Indexing.{Answer}
 use Rattle.dd_engine.specs.PastFailures.{IsOfOne, Reading, answers_of}
-use Rattle.dd_engine.specs.Supply.{AnswersSource, IsOfSource}
 use Rattle.dd_files.specs.Files.{Held}
 use Rattle.dd_files.specs.Keeping.{IfSaid}
 use Rattle.dd_keys.specs.declared.fault.KeyFault.{KeyFault}
 use Rattle.dd_keys.specs.declared.fault.KeyFault.TheVariants.{Read}
+use Rattle.dd_keys.specs.Sources.{Answer, AnswersSource, IsOfSource}
 use Rattle.dd_layout.specs.Limits.{Limits}
 use Rattle.dicomdir.specs.FileSupply.{bytes_read}
 use Rattle.dicomdir.specs.Origins.{IsPathAt}

@@ -11,7 +11,7 @@ use Rattle.dd_engine.specs.declared.noted_index.NotedIndex.{NotedIndex}
 use Rattle.dd_engine.specs.Found.{HasFound}
 use Rattle.dd_engine.specs.Indexed.{IsIndexed}
 use Rattle.dd_engine.specs.IndexNotes.{NotesIndex}
-use Rattle.dd_engine.specs.Indexing.{Answer}
+use Rattle.dd_keys.specs.Sources.{Answer}
 use Rattle.dd_files.specs.Files.{Held}
 use Rattle.dd_files.specs.Keeping.{IfSaid}
 use Rattle.dd_json.specs.declared.value.Style.{Style}

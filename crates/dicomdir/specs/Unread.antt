@@ -1,8 +1,8 @@
 -- The sources of piles that were not read when they were staged, and the answers for what lists say of sources.
 use Rattle.std.specs.Prelude.{◌≢◌, ◌+◌, ℕ, suc, List, [], ◌∷◌, ◌++◌, length, min, Option, None, Some, Result, Ok, Err, IfErr}
 use Rattle.dd_elem.specs.Device.{last_count}
-use Rattle.dd_engine.specs.Indexing.{Answer}
 use Rattle.dd_keys.specs.declared.fault.KeyFault.TheVariants.{Read}
+use Rattle.dd_keys.specs.Sources.{Answer}
 use Rattle.dd_staged.specs.Sources.{Source}
 use Rattle.dd_staged.specs.declared.source_fault.SourceFault.{SourceFault}
 use Rattle.dd_staged.specs.declared.source_fault.SourceFault.TheVariants.{Absent, BadName, Key}

@@ -5,7 +5,7 @@ ghost use Rattle.dd_elem.specs.Device.{HasFailed};
 ghost use Rattle.dd_engine.specs.Found.{HasFound};
 ghost use Rattle.dd_engine.specs.Indexed.{Indexes, IsWithin};
 ghost use Rattle.dd_engine.specs.IndexNotes.{NotesIndex};
-ghost use Rattle.dd_engine.specs.Indexing.{Answer};
+ghost use Rattle.dd_keys.specs.Sources.{Answer};
 ghost use Rattle.dd_engine.specs.Noting.{AreBelow, IsBelow};
 ghost use Rattle.dd_engine.specs.declared.choice.Choice.{Choice};
 ghost use Rattle.dd_files.specs.Files.{Held};

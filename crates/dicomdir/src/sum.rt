@@ -1,7 +1,7 @@
 //! What became of the sources of an index, for a person.
 ghost use Rattle.std.specs.Prelude.{◌≡◌, List, Ok, length};
 ghost use Rattle.dd_engine.specs.IndexNotes.{NotesIndex};
-ghost use Rattle.dd_engine.specs.Indexing.{Answer};
+ghost use Rattle.dd_keys.specs.Sources.{Answer};
 ghost use Rattle.dd_engine.specs.declared.choice.Choice.{Choice};
 ghost use Rattle.dd_layout.specs.Limits.{Limits};
 ghost use Rattle.dicomdir.specs.Sum.{AddsUp, CountsSources};

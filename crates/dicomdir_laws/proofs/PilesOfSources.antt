@@ -10,7 +10,7 @@ use Rattle.std.proofs.lemmas.Map.Views.{list_any-from_Contains}
 use Rattle.std.proofs.lemmas.Option.{same_Some, slice_get_within}
 use Rattle.clap.specs.Words.{Row, Text}
 use Rattle.dd_catalogue.proofs.Members.{Member, contained, member_of}
-use Rattle.dd_engine.specs.Supply.{AnswersSource, IsOfSource}
+use Rattle.dd_keys.specs.Sources.{AnswersSource, IsOfSource}
 use Rattle.dd_files.specs.Files.{Held}
 use Rattle.dd_line.specs.declared.line.Verb.TheVariants.{Index, Publish}
 use Rattle.dd_pile.specs.Lists.{HasList}

@@ -6,9 +6,8 @@ use Rattle.std.specs.Str.{IsUtf8}
 use Rattle.std.proofs.lemmas.Option.{slice_get_cases, slice_get_within}
 use Rattle.clap.specs.Words.{Text}
 use Rattle.dd_catalogue.proofs.Members.{Member, contained}
-use Rattle.dd_engine.specs.Indexing.{Answer, accepted, accepted_from, versions_of}
+use Rattle.dd_engine.specs.Indexing.{accepted, accepted_from, versions_of}
 use Rattle.dd_engine.specs.PastFailures.{Reading, answers_of}
-use Rattle.dd_engine.specs.Supply.{AnswersSource, IsOfSource}
 use Rattle.dd_files.specs.Files.{Held}
 use Rattle.dd_grammar.specs.declared.fault.SetFault.TheVariants as parsing
 use Rattle.dd_keys.specs.Answers.{Answers}
@@ -16,6 +15,7 @@ use Rattle.dd_keys.specs.Faults.{IsWantOfMemory, SaysMemory}
 use Rattle.dd_keys.specs.Versions.{IsVersion}
 use Rattle.dd_keys.specs.declared.fault.KeyFault.{KeyFault}
 use Rattle.dd_keys.specs.declared.fault.KeyFault.TheVariants.{File, Memory}
+use Rattle.dd_keys.specs.Sources.{Answer, AnswersSource, IsOfSource}
 use Rattle.dd_part10.specs.Memory.{SetWants}
 use Rattle.dd_part10.specs.declared.fault.FileFault.TheVariants.{Meta, Set}
 use Rattle.dd_version.specs.declared.parts.Parts.{Parts}

@@ -1,7 +1,7 @@
 use Rattle.std.proofs.Common.{◌≡◌, ◌<◌, ◌+◌, ℕ, List, length}
 use Rattle.dd_elem.specs.Device.{IsLive}
 use Rattle.dd_engine.specs.Batches.{HasRoom, HoldsOpen}
-use Rattle.dd_engine.specs.Indexing.{Answer}
+use Rattle.dd_keys.specs.Sources.{Answer}
 use Rattle.dd_engine.specs.Supply.{AllStay, AreAnswers, EachGrows, HasGivenAll}
 use Rattle.dd_engine.proofs.Lending.{StayFrom}
 use Rattle.dd_engine.proofs.sources.read_sources.Given as goal
