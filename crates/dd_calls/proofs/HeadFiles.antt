@@ -8,7 +8,7 @@ use Rattle.sha2.proofs.Facts256.{length-sha256}
 use Rattle.sha2.specs.Sha256.{sha256}
 use Rattle.dd_encoding.specs.Meta.{class_tag, instance_tag}
 use Rattle.dd_encoding.specs.declared.meta.Meta.{Meta}
-use Rattle.dd_layout.specs.ElementForms.{tag}
+use Rattle.dd_records.specs.ElementForms.{tag}
 use Rattle.dd_part10.specs.declared.fault.FileFault.{FileFault}
 use Rattle.dd_part10.specs.Reading.{FileParts, file_in}
 use Rattle.dd_report.specs.Agreements.{Standing, agreement, first_wrong, has_digest, inherited, mislabelled, patient_id}

@@ -1,7 +1,7 @@
 //! The records of a directory in the order of a walk, each with what it inherits.
 
 ghost use Rattle.std.specs.Prelude.{◌≡◌, ◌++◌, ◌∷◌, [], List, OnOk, IfOk, map};
-ghost use Rattle.dd_layout.specs.ElementForms.{tag};
+ghost use Rattle.dd_records.specs.ElementForms.{tag};
 ghost use Rattle.dd_dir.specs.ForestViews.{tree_view, trees_view};
 ghost use Rattle.dd_dir.specs.Trees.{Node};
 ghost use Rattle.dd_report.specs.Agreements.{branch_standings, nearest, standings_below};

@@ -10,7 +10,7 @@ use crate::texts::Texts;
 use crate::values::value_in;
 use dd_dir::Tree;
 use dd_elem::Tag;
-use dd_layout::Level;
+use dd_records::Level;
 use std::alloc::{AllocError, Global};
 
 /// A record of a directory.

@@ -9,7 +9,7 @@ use Rattle.dd_encoding.specs.declared.syntax.Syntax.TheVariants.{Explicit}
 use Rattle.dd_grammar.proofs.Steps.{some_is}
 use Rattle.dd_encoding.specs.Syntaxes.{syntax_of}
 use Rattle.dd_encoding.proofs.KnownSyntaxes.{explicit_known}
-use Rattle.dd_layout.specs.Directory.{directory_class, directory_syntax}
+use Rattle.dd_records.specs.Directory.{directory_class, directory_syntax}
 use Rattle.std.proofs.lemmas.Bool.{and_parts}
 use Rattle.std.proofs.lemmas.Slice.Eq.{bytes_eq-Decides}
 use Rattle.dd_part10.specs.declared.fault.FileFault.{FileFault}
@@ -29,7 +29,7 @@ use Rattle.dd_dir.proofs.Contents.{same_many}
 use Rattle.dd_dir.proofs.Moved.{places_many}
 use Rattle.dd_dir.proofs.Sequences.{items_in, items_in-is}
 use Rattle.dd_dir.proofs.WalkPlaces.{rises_lower, contents_rise, contents_parts}
-use Rattle.dd_layout.specs.ElementForms.{tag}
+use Rattle.dd_records.specs.ElementForms.{tag}
 use Rattle.dd_set.specs.Starts.{places_in}
 
 -- ---- a fault that is handed on

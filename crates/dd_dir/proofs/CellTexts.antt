@@ -12,8 +12,8 @@ use Rattle.dd_encoding.specs.Spelling.{header_limit}
 use Rattle.dd_set.specs.Single.{element_text}
 use Rattle.dd_encoding.specs.Spelling.{elements_text, tag_text, shape_text, header_text, content_text}
 use Rattle.dd_set.proofs.Counting.{element_first}
-use Rattle.dd_layout.specs.declared.cell.Cell.{Cell}
-use Rattle.dd_layout.specs.Cells.{IsShort, IsShortElement, cell_element}
+use Rattle.dd_records.specs.declared.cell.Cell.{Cell}
+use Rattle.dd_records.specs.Cells.{IsShort, IsShortElement, cell_element}
 
 -- an element is sent as its header, its value and the padding
 pub cell_parts : (tag : Tag) (vr : Vr) (n : ℕ) (value padding whole : List ℕ) → value ++ padding ≡ whole

@@ -4,11 +4,11 @@ use Rattle.std.specs.List.{AllByRecursion, last_or}
 use Rattle.std.proofs.Common.{refl, ◌∙◌, ap, ap₂, arith}
 use Rattle.std.proofs.lemmas.List.{map-append}
 use Rattle.dd_encoding.specs.Elements.{Elements}
-use Rattle.dd_layout.specs.declared.level.Level.TheVariants.{Patient, Study, Series, Image}
+use Rattle.dd_records.specs.declared.level.Level.TheVariants.{Patient, Study, Series, Image}
 use Rattle.dd_layout.specs.Neighbours.{scan}
 use Rattle.dd_layout.specs.Paths.{Path, is_path, parent_of}
 use Rattle.dd_layout.specs.Plans.{level_of}
-use Rattle.dd_layout.specs.Records.{kind_of}
+use Rattle.dd_records.specs.Records.{kind_of}
 use Rattle.dd_layout.proofs.Blocks.{AllTails}
 use Rattle.dd_layout.proofs.HasLevel.{HasLevel}
 use Rattle.dd_layout.proofs.LinksAlong.{no_fifth}

@@ -12,12 +12,12 @@ use Rattle.dd_elem.specs.Uid.{is_uid}
 use Rattle.dd_version.proofs.ImageClasses.{is_image_class_decides}
 use Rattle.dd_version.proofs.KnownSyntaxes.{is_known_syntax_decides}
 use Rattle.dd_version.specs.Fitting.{Fits, is_empty}
-use Rattle.dd_layout.specs.declared.field.Field.{Field}
-use Rattle.dd_layout.specs.declared.level.Level.{Level}
-use Rattle.dd_layout.specs.declared.level.Level.TheVariants.{Patient, Study, Series, Image}
-use Rattle.dd_layout.specs.declared.table.Row.{Row}
-use Rattle.dd_layout.specs.declared.table.TheConstants as row
-use Rattle.dd_layout.specs.Tables.{table_of}
+use Rattle.dd_records.specs.declared.field.Field.{Field}
+use Rattle.dd_records.specs.declared.level.Level.{Level}
+use Rattle.dd_records.specs.declared.level.Level.TheVariants.{Patient, Study, Series, Image}
+use Rattle.dd_records.specs.declared.table.Row.{Row}
+use Rattle.dd_records.specs.declared.table.TheConstants as row
+use Rattle.dd_records.specs.Tables.{table_of}
 use Rattle.dd_encoding.specs.Elements.{Elements, Content, Element, bytes, items, fragments}
 use Rattle.dd_set.specs.Find.{content_value, element_value, find_in, value_at}
 use Rattle.dd_dir.specs.declared.own_fault.OwnFault.{OwnFault}

@@ -4,7 +4,7 @@ use Rattle.std.proofs.Common.{refl, sym, ap, ◌∙◌, arith}
 use Rattle.std.proofs.lemmas.List.{length-map}
 use Rattle.dd_encoding.specs.Elements.{Elements}
 use Rattle.dd_set.specs.Starts.{places_in}
-use Rattle.dd_layout.specs.ElementForms.{tag}
+use Rattle.dd_records.specs.ElementForms.{tag}
 use Rattle.dd_dir.specs.Reading.{Contents, contents_by, contents_in}
 use Rattle.dd_dir.specs.Saying.{beside_in, first_in, last_in, records_in}
 use Rattle.dd_dir.specs.Trees.{Beside}

@@ -10,7 +10,7 @@ use Rattle.dd_elem.specs.Digests.{uid_of_digest}
 use Rattle.dd_version.specs.declared.parts.Parts.{Parts}
 use Rattle.dd_layout.specs.declared.fault.PlanFault.{PlanFault}
 use Rattle.dd_layout.specs.declared.fault.PlanFault.TheVariants.{Memory}
-use Rattle.dd_layout.specs.declared.label.Label.{Label}
+use Rattle.dd_records.specs.declared.label.Label.{Label}
 use Rattle.dd_layout.specs.Limits.{Limits}
 use Rattle.dd_layout.specs.Layouts.{Layout, layout_of}
 use Rattle.dd_layout.specs.Refusal.{conflict_or, excess}

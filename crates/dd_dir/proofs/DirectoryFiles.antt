@@ -13,13 +13,13 @@ use Rattle.dd_encoding.proofs.Heads.{length_head}
 use Rattle.dd_encoding.specs.Spelling.{Spells, elements_text}
 use Rattle.dd_encoding.specs.declared.syntax.Syntax.TheVariants.{Explicit}
 use Rattle.dd_encoding.proofs.KnownSyntaxes.{explicit_known}
-use Rattle.dd_layout.specs.declared.label.Label.{Label}
-use Rattle.dd_layout.specs.declared.record.PlanRecord.{PlanRecord}
-use Rattle.dd_layout.specs.Directory.{meta_of}
+use Rattle.dd_records.specs.declared.label.Label.{Label}
+use Rattle.dd_records.specs.declared.record.PlanRecord.{PlanRecord}
+use Rattle.dd_records.specs.Directory.{meta_of}
 use Rattle.dd_layout.specs.Layouts.{IsSound}
 use Rattle.dd_layout.specs.Plans.{records_of, size, tree}
-use Rattle.dd_layout.specs.Records.{IsRecord}
-use Rattle.dd_layout.proofs.DirectoryElements.{elements_are_valid}
+use Rattle.dd_records.specs.Records.{IsRecord}
+use Rattle.dd_records.proofs.DirectoryElements.{elements_are_valid}
 use Rattle.dd_dir.specs.Directories.{IsDirectory, directory_set, elements_for, first_root, last_root}
 use Rattle.dd_dir.proofs.DirectoryTexts.{directory_length, sizes_sum}
 

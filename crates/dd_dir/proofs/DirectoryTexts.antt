@@ -16,19 +16,19 @@ use Rattle.dd_encoding.specs.Elements.{Element, Item, items_of}
 use Rattle.dd_stream.specs.Sends.{Sends}
 use Rattle.dd_stream.specs.declared.write_fault.WriteFault.{WriteFault}
 use Rattle.dd_encoding.specs.Spelling.{header_text, items_text, shape_text, tag_text}
-use Rattle.dd_layout.specs.declared.label.Label.{Label}
-use Rattle.dd_layout.specs.Directory.{directory_elements, first_offset, front_elements, meta_of, records_element}
-use Rattle.dd_layout.specs.ElementForms.{tag}
+use Rattle.dd_records.specs.declared.label.Label.{Label}
+use Rattle.dd_records.specs.Directory.{directory_elements, first_offset, front_elements, meta_of, records_element}
+use Rattle.dd_records.specs.ElementForms.{tag}
 use Rattle.dd_layout.specs.Layouts.{IsSound}
 use Rattle.dd_layout.specs.Paths.{Path}
 use Rattle.dd_layout.specs.Plans.{file_of, least_below, level_of, record_at, record_size_at, records_end, records_of}
 use Rattle.dd_layout.specs.Plans.{size, size_of}
 use Rattle.dd_layout.specs.Plans.{tree}
-use Rattle.dd_layout.specs.Records.{record_item}
-use Rattle.dd_layout.specs.Sizes.{record_size}
-use Rattle.dd_layout.specs.Withdrawals.{withdrawal_elements, withdrawals_size}
-use Rattle.dd_layout.proofs.RecordSizes.{same_size}
-use Rattle.dd_layout.proofs.DirectoryElements.{items_length, length_is_of_records}
+use Rattle.dd_records.specs.Records.{record_item}
+use Rattle.dd_records.specs.Sizes.{record_size}
+use Rattle.dd_records.specs.Withdrawals.{withdrawal_elements, withdrawals_size}
+use Rattle.dd_records.proofs.RecordSizes.{same_size}
+use Rattle.dd_records.proofs.DirectoryElements.{items_length, length_is_of_records}
 use Rattle.dd_dir.specs.Directories.{directory_of, elements_by, elements_for, first_root, last_root}
 use Rattle.dd_dir.specs.Directories.{opening_text}
 use Rattle.dd_dir.proofs.RecordTexts.{records_text}

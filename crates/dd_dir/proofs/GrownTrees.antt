@@ -1,8 +1,8 @@
 -- Trees from the rows of a tree, from the back. What stands after a row one level further down becomes the trees below
 -- it. What stands after it at its own level becomes the trees after it.
 use Rattle.std.specs.Prelude.{List, [], ◌∷◌}
-use Rattle.dd_layout.specs.declared.level.Level.{Level}
-use Rattle.dd_layout.specs.declared.level.Level.TheVariants.{Patient, Study, Series, Image}
+use Rattle.dd_records.specs.declared.level.Level.{Level}
+use Rattle.dd_records.specs.declared.level.Level.TheVariants.{Patient, Study, Series, Image}
 use Rattle.dd_layout.specs.Paths.{Path}
 use Rattle.dd_layout.specs.Plans.{level_of}
 use Rattle.dd_dir.specs.Trees.{Node, Trees, no_trees, tree}

@@ -13,9 +13,9 @@ use Rattle.dd_dir.specs.declared.own_fault.OwnFault.{OwnFault}
 use Rattle.dd_dir.specs.declared.own_fault.OwnFault.TheVariants.{BadWithdrawal, ForeignRecord, Memory, NoDigest}
 use Rattle.dd_dir.specs.declared.own_fault.OwnFault.TheVariants.{RecordKey}
 use Rattle.dd_dir.specs.ForestViews.{tree_view, trees_view}
-use Rattle.dd_layout.specs.declared.level.Level.{Level}
-use Rattle.dd_layout.specs.declared.table.Row.{Row}
-use Rattle.dd_layout.specs.Tables.{table_of}
+use Rattle.dd_records.specs.declared.level.Level.{Level}
+use Rattle.dd_records.specs.declared.table.Row.{Row}
+use Rattle.dd_records.specs.Tables.{table_of}
 use Rattle.dd_dir.specs.Own.{Above, Listed, ListsFirst, below, fault_at, followed, is_bad, is_own, lacks_digest}
 use Rattle.dd_dir.specs.Own.{level_in, listed_at, listed_in, unless}
 use Rattle.dd_dir.specs.Trees.{Node, Trees}

@@ -7,18 +7,18 @@ use Rattle.std.proofs.Common.{refl, sym, ◌∙◌, ap, subst, arith, append_ass
 use Rattle.std.proofs.lemmas.List.Elements.{recursion_from_All}
 use Rattle.std.proofs.lemmas.List.Sums.{sum_by_push}
 use Rattle.dd_version.specs.declared.parts.Parts.{Parts}
-use Rattle.dd_layout.specs.declared.label.Label.{Label}
-use Rattle.dd_layout.specs.declared.record.PlanRecord.{PlanRecord}
-use Rattle.dd_layout.specs.Directory.{first_offset}
+use Rattle.dd_records.specs.declared.label.Label.{Label}
+use Rattle.dd_records.specs.declared.record.PlanRecord.{PlanRecord}
+use Rattle.dd_records.specs.Directory.{first_offset}
 use Rattle.dd_layout.specs.Layouts.{IsSound}
 use Rattle.dd_layout.specs.Paths.{Path}
 use Rattle.dd_layout.specs.Plans.{at, least_below, path_of, record_at, record_size_at, records_end, records_of, size_of, tree}
-use Rattle.dd_layout.specs.Records.{IsFileOf}
-use Rattle.dd_layout.specs.Sizes.{record_size}
+use Rattle.dd_records.specs.Records.{IsFileOf}
+use Rattle.dd_records.specs.Sizes.{record_size}
 use Rattle.dd_layout.proofs.Leasts.{paths_have_parts}
 use Rattle.dd_layout.proofs.Neighbourhood.{rows_are_known}
 use Rattle.dd_layout.proofs.OffsetsWithin.{version_there}
-use Rattle.dd_layout.proofs.RecordSizes.{same_size}
+use Rattle.dd_records.proofs.RecordSizes.{same_size}
 use Rattle.dd_dir.specs.Directories.{AreMeasured, elements_by, elements_for, end_before}
 
 -- ---- the records of a plan

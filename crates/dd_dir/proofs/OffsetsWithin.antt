@@ -4,7 +4,7 @@ use Rattle.std.specs.List.{last_or}
 use Rattle.std.proofs.Common.{sym, subst}
 use Rattle.dd_version.specs.declared.parts.Parts.{Parts}
 use Rattle.dd_stream.specs.declared.write_fault.WriteFault.{WriteFault}
-use Rattle.dd_layout.specs.declared.label.Label.{Label}
+use Rattle.dd_records.specs.declared.label.Label.{Label}
 use Rattle.dd_layout.specs.Paths.{is_path, parent_of}
 use Rattle.dd_layout.specs.Plans.{size, tree}
 use Rattle.dd_layout.specs.Tree.{children, first_child}

@@ -12,10 +12,10 @@ use Rattle.dd_catalogue.specs.Versions.{IsCatalogue, versions_ordered}
 use Rattle.dd_catalogue.proofs.FirstConflicts.{one_version}
 use Rattle.dd_catalogue.proofs.Harmonies.{harmonised_rises, member-map}
 use Rattle.dd_version.specs.declared.parts.Parts.{Parts}
-use Rattle.dd_layout.specs.declared.label.Label.{Label}
+use Rattle.dd_records.specs.declared.label.Label.{Label}
 use Rattle.dd_layout.specs.Paths.{Path, leads_to}
 use Rattle.dd_layout.specs.Plans.{file_of, path_of, tree}
-use Rattle.dd_layout.specs.Records.{file_text}
+use Rattle.dd_records.specs.Records.{file_text}
 use Rattle.dd_layout.proofs.Blocks.{leads_itself}
 use Rattle.dd_layout.proofs.Leasts.{all_have_levels}
 use Rattle.dd_layout.proofs.Trees.{tree_is_tree}

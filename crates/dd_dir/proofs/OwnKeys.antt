@@ -5,8 +5,8 @@ use Rattle.dd_elem.specs.Clean.{clean_of}
 use Rattle.dd_catalogue.specs.Rising.{by_test}
 use Rattle.dd_version.specs.declared.parts.Parts.{Parts}
 use Rattle.dd_encoding.specs.Elements.{elements_of}
-use Rattle.dd_layout.specs.declared.label.Label.{Label}
-use Rattle.dd_layout.specs.ElementForms.{tag}
+use Rattle.dd_records.specs.declared.label.Label.{Label}
+use Rattle.dd_records.specs.ElementForms.{tag}
 use Rattle.dd_layout.specs.Paths.{Path, leads_to}
 use Rattle.dd_layout.specs.Plans.{least_below, level_of, path_of, record_at}
 use Rattle.dd_layout.proofs.HasLevel.{HasLevel}

@@ -19,20 +19,20 @@ use Rattle.dd_encoding.specs.Spelling.{header_text, items_text}
 use Rattle.dd_set.specs.Starts.{places_in}
 use Rattle.dd_encoding.proofs.Even.{length-header_text}
 use Rattle.dd_set.proofs.Places.{places_in-sums, starts_from}
-use Rattle.dd_layout.specs.declared.label.Label.{Label}
-use Rattle.dd_layout.specs.declared.record.PlanRecord.{PlanRecord}
-use Rattle.dd_layout.specs.Directory.{first_offset, meta_of}
-use Rattle.dd_layout.specs.ElementForms.{bytes_element, padded, tag}
+use Rattle.dd_records.specs.declared.label.Label.{Label}
+use Rattle.dd_records.specs.declared.record.PlanRecord.{PlanRecord}
+use Rattle.dd_records.specs.Directory.{first_offset, meta_of}
+use Rattle.dd_records.specs.ElementForms.{bytes_element, padded, tag}
 use Rattle.dd_layout.specs.Layouts.{IsSound}
 use Rattle.dd_layout.specs.Paths.{Path, is_before}
 use Rattle.dd_layout.specs.Plans.{at, at_or_none, path_of, record_at, record_size_at, records_end, records_of, size}
 use Rattle.dd_layout.specs.Plans.{tree}
-use Rattle.dd_layout.specs.Records.{record_item}
-use Rattle.dd_layout.specs.Sizes.{record_size}
+use Rattle.dd_records.specs.Records.{record_item}
+use Rattle.dd_records.specs.Sizes.{record_size}
 use Rattle.dd_layout.proofs.Leasts.{paths_have_parts}
-use Rattle.dd_layout.proofs.Lengths.{short_more}
+use Rattle.dd_records.proofs.Lengths.{short_more}
 use Rattle.dd_layout.proofs.Neighbourhood.{rows_are_known}
-use Rattle.dd_layout.proofs.DirectoryElements.{directory_length}
+use Rattle.dd_records.proofs.DirectoryElements.{directory_length}
 use Rattle.dd_layout.proofs.OffsetPass.{end_at}
 use Rattle.dd_dir.specs.Directories.{directory_set, elements_for, first_root, last_root}
 use Rattle.dd_dir.specs.Reading.{stands_in}

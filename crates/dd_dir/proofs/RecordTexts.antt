@@ -8,9 +8,9 @@ use Rattle.dd_encoding.specs.Elements.{Element, items_of}
 use Rattle.dd_set.specs.Single.{item_text}
 use Rattle.dd_encoding.specs.Spelling.{item_tag_text, items_text}
 use Rattle.dd_set.proofs.Counting.{part_first}
-use Rattle.dd_layout.specs.declared.record.PlanRecord.{PlanRecord}
-use Rattle.dd_layout.specs.Records.{record_elements, record_item}
-use Rattle.dd_layout.specs.Sizes.{record_size}
+use Rattle.dd_records.specs.declared.record.PlanRecord.{PlanRecord}
+use Rattle.dd_records.specs.Records.{record_elements, record_item}
+use Rattle.dd_records.specs.Sizes.{record_size}
 use Rattle.dd_dir.specs.Directories.{elements_by, elements_for}
 use Rattle.dd_dir.proofs.RowTexts.{text_of}
 

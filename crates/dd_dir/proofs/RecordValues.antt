@@ -12,10 +12,10 @@ use Rattle.dd_version.specs.declared.keys.PatientKeys.{PatientKeys}
 use Rattle.dd_version.specs.declared.keys.SeriesKeys.{SeriesKeys}
 use Rattle.dd_version.specs.declared.keys.StudyKeys.{StudyKeys}
 use Rattle.dd_version.specs.declared.parts.Parts.{Parts}
-use Rattle.dd_layout.specs.declared.level.Level.TheVariants.{Patient, Study, Series, Image}
-use Rattle.dd_layout.specs.declared.table.TheConstants as row
-use Rattle.dd_layout.specs.ElementForms.{tag, padded, text_element, uid_element}
-use Rattle.dd_layout.specs.Records.{kind_of, link_elements, record_elements}
+use Rattle.dd_records.specs.declared.level.Level.TheVariants.{Patient, Study, Series, Image}
+use Rattle.dd_records.specs.declared.table.TheConstants as row
+use Rattle.dd_records.specs.ElementForms.{tag, padded, text_element, uid_element}
+use Rattle.dd_records.specs.Records.{kind_of, link_elements, record_elements}
 use Rattle.dd_part10.proofs.HeadLaw.{clean_uid}
 use Rattle.dd_encoding.specs.Elements.{Elements, elements_of}
 use Rattle.dd_dir.specs.Saying.{digest_in, sized}

@@ -11,10 +11,10 @@ use Rattle.dd_version.proofs.KnownSyntaxes.{is_known_syntax_decides}
 use Rattle.dd_version.specs.Fitting.{is_empty}
 use Rattle.dd_set.specs.Find.{value_at}
 use Rattle.dd_version.specs.declared.parts.Parts.{Parts}
-use Rattle.dd_layout.specs.declared.level.Level.TheVariants.{Patient, Study, Series, Image}
-use Rattle.dd_layout.specs.declared.table.Row.{Row}
-use Rattle.dd_layout.specs.declared.table.TheConstants as row
-use Rattle.dd_layout.specs.Records.{kind_of}
+use Rattle.dd_records.specs.declared.level.Level.TheVariants.{Patient, Study, Series, Image}
+use Rattle.dd_records.specs.declared.table.Row.{Row}
+use Rattle.dd_records.specs.declared.table.TheConstants as row
+use Rattle.dd_records.specs.Records.{kind_of}
 use Rattle.dd_encoding.specs.Elements.{Elements}
 use Rattle.dd_dir.specs.declared.own_fault.OwnFault.{OwnFault}
 use Rattle.dd_dir.specs.declared.own_fault.OwnFault.TheVariants.{NoDigest, RecordKey}

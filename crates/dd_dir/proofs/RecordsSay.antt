@@ -8,10 +8,10 @@ use Rattle.dd_elem.specs.declared.vr.Vr.TheVariants.{CS, DA, LO, PN, SH, TM}
 use Rattle.dd_elem.proofs.Cleaning.{clean_of_push_padding}
 use Rattle.dd_version.specs.declared.parts.Parts.{Parts}
 use Rattle.dd_encoding.specs.Elements.{elements_of}
-use Rattle.dd_layout.specs.declared.level.Level.{Level}
-use Rattle.dd_layout.specs.declared.level.Level.TheVariants.{Patient, Study, Series, Image}
-use Rattle.dd_layout.specs.ElementForms.{tag, padded, text_element, uid_element}
-use Rattle.dd_layout.specs.Records.{kind_of, link_elements, record_elements}
+use Rattle.dd_records.specs.declared.level.Level.{Level}
+use Rattle.dd_records.specs.declared.level.Level.TheVariants.{Patient, Study, Series, Image}
+use Rattle.dd_records.specs.ElementForms.{tag, padded, text_element, uid_element}
+use Rattle.dd_records.specs.Records.{kind_of, link_elements, record_elements}
 use Rattle.dd_dir.specs.Saying.{key_of, links_by, links_in}
 
 -- ---- links, flag and type

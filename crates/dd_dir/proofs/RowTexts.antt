@@ -9,11 +9,11 @@ use Rattle.dd_encoding.specs.Elements.{Element, elements_of}
 use Rattle.dd_set.specs.Single.{element_text}
 use Rattle.dd_encoding.specs.Spelling.{elements_text}
 use Rattle.dd_set.proofs.Counting.{element_first}
-use Rattle.dd_layout.specs.declared.cell.Cell.{Cell}
-use Rattle.dd_layout.specs.declared.record.PlanRecord.{PlanRecord}
-use Rattle.dd_layout.specs.declared.table.Row.{Row}
-use Rattle.dd_layout.specs.Cells.{IsShort, IsShortElement, cell_element, cell_elements, even_value, row_elements}
-use Rattle.dd_layout.specs.Cells.{table_elements}
+use Rattle.dd_records.specs.declared.cell.Cell.{Cell}
+use Rattle.dd_records.specs.declared.record.PlanRecord.{PlanRecord}
+use Rattle.dd_records.specs.declared.table.Row.{Row}
+use Rattle.dd_records.specs.Cells.{IsShort, IsShortElement, cell_element, cell_elements, even_value, row_elements}
+use Rattle.dd_records.specs.Cells.{table_elements}
 
 -- the text of elements in a row
 abbrev pub text_of : List Element → List ℕ

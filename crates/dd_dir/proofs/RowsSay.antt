@@ -12,13 +12,13 @@ use Rattle.dd_elem.specs.Ordered.{bytes_cmp}
 use Rattle.dd_catalogue.proofs.Members.{Member, contained, member_of}
 use Rattle.dd_version.specs.declared.parts.Parts.{Parts}
 use Rattle.dd_encoding.specs.Elements.{Elements, elements_of}
-use Rattle.dd_layout.specs.declared.label.Label.{Label}
-use Rattle.dd_layout.specs.declared.level.Level.TheVariants.{Image}
-use Rattle.dd_layout.specs.declared.record.PlanRecord.{PlanRecord}
+use Rattle.dd_records.specs.declared.label.Label.{Label}
+use Rattle.dd_records.specs.declared.level.Level.TheVariants.{Image}
+use Rattle.dd_records.specs.declared.record.PlanRecord.{PlanRecord}
 use Rattle.dd_layout.specs.Layouts.{IsSound}
 use Rattle.dd_layout.specs.Paths.{Path, leads_to}
 use Rattle.dd_layout.specs.Plans.{file_of, level_of, path_of, record_at, records_of, tree}
-use Rattle.dd_layout.specs.Records.{record_elements}
+use Rattle.dd_records.specs.Records.{record_elements}
 use Rattle.dd_layout.proofs.Blocks.{and_parts}
 use Rattle.dd_layout.proofs.HasLevel.{HasLevel}
 use Rattle.dd_layout.proofs.Trees.{tree_is_tree}

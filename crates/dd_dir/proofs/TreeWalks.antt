@@ -12,13 +12,13 @@ use Rattle.dd_version.specs.declared.parts.Parts.{Parts}
 use Rattle.dd_encoding.specs.Head.{head_text}
 use Rattle.dd_encoding.specs.Elements.{Element, elements_of}
 use Rattle.dd_encoding.specs.Spelling.{elements_text}
-use Rattle.dd_layout.specs.declared.label.Label.{Label}
-use Rattle.dd_layout.specs.Directory.{meta_of}
+use Rattle.dd_records.specs.declared.label.Label.{Label}
+use Rattle.dd_records.specs.Directory.{meta_of}
 use Rattle.dd_layout.specs.Layouts.{IsSound}
 use Rattle.dd_layout.specs.Neighbours.{scan}
 use Rattle.dd_layout.specs.Paths.{Path, parent_of}
 use Rattle.dd_layout.specs.Plans.{at, at_or_none, level_of, path_of, record_at, records_end, records_of, tree}
-use Rattle.dd_layout.specs.Records.{kind_of}
+use Rattle.dd_records.specs.Records.{kind_of}
 use Rattle.dd_layout.specs.Tree.{children, first_child, in_order, next_sibling}
 use Rattle.dd_layout.proofs.Blocks.{AllTails}
 use Rattle.dd_layout.proofs.Counts.{Linked, walk_linked}

@@ -15,7 +15,7 @@ use Rattle.dd_set.specs.Starts.{item_places, content_places, places_in}
 use Rattle.dd_encoding.specs.declared.meta.Meta.{Meta}
 use Rattle.dd_part10.specs.File.{IsFile}
 use Rattle.dd_encoding.specs.Head.{prefix, group_length_text}
-use Rattle.dd_layout.specs.ElementForms.{tag}
+use Rattle.dd_records.specs.ElementForms.{tag}
 use Rattle.dd_dir.specs.Reading.{Contents, contents_by, contents_in, contents_of, is_directory_meta}
 use Rattle.dd_dir.specs.Reading.{stands_in, stands_of, IsDirectoryFile}
 use Rattle.dd_dir.specs.Saying.{beside_in, first_in, last_in, records_in}

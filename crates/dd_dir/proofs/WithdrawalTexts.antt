@@ -7,10 +7,10 @@ use Rattle.dd_elem.specs.declared.vr.Vr.TheVariants.{UC}
 use Rattle.dd_encoding.specs.Elements.{Element}
 use Rattle.dd_encoding.specs.Spelling.{header_text, shape_text, tag_text}
 use Rattle.dd_catalogue.proofs.FirstAndRest.{first_and_rest, rest_of}
-use Rattle.dd_layout.specs.ElementForms.{bytes_element, tag}
-use Rattle.dd_layout.specs.Withdrawals.{creator_element, withdrawal_elements, withdrawals_size, withdrawn_value}
-use Rattle.dd_layout.proofs.Lengths.{length-padded}
-use Rattle.dd_layout.proofs.WithdrawalElements.{size_by_value}
+use Rattle.dd_records.specs.ElementForms.{bytes_element, tag}
+use Rattle.dd_records.specs.Withdrawals.{creator_element, withdrawal_elements, withdrawals_size, withdrawn_value}
+use Rattle.dd_records.proofs.Lengths.{length-padded}
+use Rattle.dd_records.proofs.WithdrawalElements.{size_by_value}
 use Rattle.dd_dir.proofs.RowTexts.{text-append, text-one, text_of}
 
 -- the header of the element with the UIDs

@@ -10,8 +10,8 @@ use Rattle.dd_elem.specs.Clean.{clean_of}
 use Rattle.dd_elem.specs.Uid.{IsComponent, IsUid}
 use Rattle.dd_elem.proofs.Cleaning.{clean_of-unpadded}
 use Rattle.dd_version.specs.declared.parts.Parts.{Parts}
-use Rattle.dd_layout.specs.declared.label.Label.{Label}
-use Rattle.dd_layout.specs.Withdrawals.{withdrawn_value}
+use Rattle.dd_records.specs.declared.label.Label.{Label}
+use Rattle.dd_records.specs.Withdrawals.{withdrawn_value}
 use Rattle.dd_dir.specs.Directories.{directory_set}
 use Rattle.dd_dir.specs.Saying.{withdrawn_in}
 use Rattle.dd_dir.specs.Withdrawn.{pieces_in, pieces_of}

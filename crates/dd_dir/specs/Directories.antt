@@ -9,16 +9,16 @@ use Rattle.dd_part10.specs.File.{IsFile}
 use Rattle.dd_encoding.specs.Head.{head_text}
 use Rattle.dd_encoding.specs.Elements.{Elements, Element, elements_of}
 use Rattle.dd_encoding.specs.Spelling.{elements_text, header_text}
-use Rattle.dd_layout.specs.declared.label.Label.{Label}
-use Rattle.dd_layout.specs.declared.record.PlanRecord.{PlanRecord}
-use Rattle.dd_layout.specs.Directory.{directory_elements, front_elements, meta_of}
-use Rattle.dd_layout.specs.ElementForms.{tag}
+use Rattle.dd_records.specs.declared.label.Label.{Label}
+use Rattle.dd_records.specs.declared.record.PlanRecord.{PlanRecord}
+use Rattle.dd_records.specs.Directory.{directory_elements, front_elements, meta_of}
+use Rattle.dd_records.specs.ElementForms.{tag}
 use Rattle.dd_layout.specs.Layouts.{StandsWithin}
 use Rattle.dd_layout.specs.Plans.{at_or_none, records_of, tree}
-use Rattle.dd_layout.specs.Records.{record_elements, record_item}
-use Rattle.dd_layout.specs.Sizes.{record_size}
+use Rattle.dd_records.specs.Records.{record_elements, record_item}
+use Rattle.dd_records.specs.Sizes.{record_size}
 use Rattle.dd_layout.specs.Tree.{children, first_child}
-use Rattle.dd_layout.specs.Withdrawals.{withdrawal_elements}
+use Rattle.dd_records.specs.Withdrawals.{withdrawal_elements}
 use Rattle.sha2.specs.Sha256.{sha256}
 
 -- The offset of the first root record, and of the last, where there are records. The path of a root has one part, and

@@ -10,13 +10,13 @@ use Rattle.dd_elem.specs.Uid.{is_uid}
 use Rattle.dd_version.specs.Classes.{is_image_class}
 use Rattle.dd_version.specs.Fitting.{is_empty}
 use Rattle.dd_set.specs.Find.{value_at}
-use Rattle.dd_layout.specs.declared.field.Field.{Field}
-use Rattle.dd_layout.specs.declared.field.Field.TheVariants as fields
-use Rattle.dd_layout.specs.declared.level.Level.{Level}
-use Rattle.dd_layout.specs.declared.level.Level.TheVariants.{Patient, Study, Series, Image}
-use Rattle.dd_layout.specs.declared.table.Row.{Row}
-use Rattle.dd_layout.specs.Records.{kind_of}
-use Rattle.dd_layout.specs.Tables.{table_of}
+use Rattle.dd_records.specs.declared.field.Field.{Field}
+use Rattle.dd_records.specs.declared.field.Field.TheVariants as fields
+use Rattle.dd_records.specs.declared.level.Level.{Level}
+use Rattle.dd_records.specs.declared.level.Level.TheVariants.{Patient, Study, Series, Image}
+use Rattle.dd_records.specs.declared.table.Row.{Row}
+use Rattle.dd_records.specs.Records.{kind_of}
+use Rattle.dd_records.specs.Tables.{table_of}
 use Rattle.dd_version.specs.Syntaxes.{is_known_syntax}
 use Rattle.dd_encoding.specs.Elements.{Elements}
 use Rattle.dd_dir.specs.declared.own_fault.OwnFault.{OwnFault}

@@ -4,7 +4,7 @@ use Rattle.dd_version.specs.declared.keys.PatientKeys.{PatientKeys}
 use Rattle.dd_version.specs.declared.keys.SeriesKeys.{SeriesKeys}
 use Rattle.dd_version.specs.declared.keys.StudyKeys.{StudyKeys}
 use Rattle.dd_version.specs.declared.parts.Parts.{Parts}
-use Rattle.dd_layout.specs.ElementForms.{tag}
+use Rattle.dd_records.specs.ElementForms.{tag}
 use Rattle.dd_encoding.specs.Elements.{Elements}
 use Rattle.dd_dir.specs.declared.own.Own.{Own}
 use Rattle.dd_dir.specs.declared.own.Place.{Place as PlaceValue}

@@ -2,9 +2,9 @@
 use Rattle.std.specs.Prelude.{◌≡◌, true, List, [], ◌∷◌, ◌++◌, find, Option, Some, None, is_some, Result}
 use Rattle.dd_encoding.specs.Elements.{Elements}
 use Rattle.dd_set.specs.Views.{set_view}
-use Rattle.dd_layout.specs.declared.level.Level.{Level}
-use Rattle.dd_layout.specs.declared.level.Level.TheVariants.{Patient, Study, Series, Image}
-use Rattle.dd_layout.specs.Tables.{table_of}
+use Rattle.dd_records.specs.declared.level.Level.{Level}
+use Rattle.dd_records.specs.declared.level.Level.TheVariants.{Patient, Study, Series, Image}
+use Rattle.dd_records.specs.Tables.{table_of}
 use Rattle.dd_dir.specs.declared.listed_images.Above.{Above as AboveValue}
 use Rattle.dd_dir.specs.declared.listed_images.Above.TheVariants as values
 use Rattle.dd_dir.specs.declared.listed_images.Listed.{Listed as ListedValue}

@@ -8,8 +8,8 @@ use Rattle.dd_set.specs.Starts.{places_in}
 use Rattle.dd_encoding.specs.declared.meta.Meta.{Meta}
 use Rattle.dd_part10.specs.File.{IsFile}
 use Rattle.dd_part10.specs.Reading.{file_in}
-use Rattle.dd_layout.specs.Directory.{directory_class, directory_syntax}
-use Rattle.dd_layout.specs.ElementForms.{tag}
+use Rattle.dd_records.specs.Directory.{directory_class, directory_syntax}
+use Rattle.dd_records.specs.ElementForms.{tag}
 use Rattle.dd_dir.specs.declared.fault.DirFault.{DirFault}
 use Rattle.dd_dir.specs.declared.fault.DirFault.TheVariants as faults
 use Rattle.dd_dir.specs.Saying.{records_in, first_in, last_in, beside_in}

@@ -7,8 +7,8 @@ use Rattle.dd_elem.specs.Clean.{clean_of}
 use Rattle.dd_elem.specs.declared.tag.Tag.{Tag}
 use Rattle.dd_encoding.specs.Elements.{Elements, Content, bytes, items, fragments, Element, Items, no_items, item}
 use Rattle.dd_set.specs.Find.{find_in, value_at}
-use Rattle.dd_layout.specs.ElementForms.{tag}
-use Rattle.dd_layout.specs.Records.{private_creator}
+use Rattle.dd_records.specs.ElementForms.{tag}
+use Rattle.dd_records.specs.Records.{private_creator}
 use Rattle.dd_dir.specs.Trees.{Beside}
 
 -- ---- values

@@ -7,7 +7,7 @@ use Rattle.dd_catalogue.specs.Versions.{best_of}
 use Rattle.dd_version.specs.declared.parts.Parts.{Parts}
 use Rattle.dd_layout.specs.Paths.{Path}
 use Rattle.dd_layout.specs.Plans.{file_of, path_of, tree}
-use Rattle.dd_layout.specs.Records.{file_text}
+use Rattle.dd_records.specs.Records.{file_text}
 use Rattle.dd_dir.specs.Own.{Listed, own}
 use Rattle.dd_dir.specs.OwnVersions.{Place, place_of, version_of}
 use Rattle.dd_dir.specs.Reading.{IsWalk}

@@ -4,11 +4,11 @@ use Rattle.dd_version.specs.declared.parts.Parts.{Parts}
 use Rattle.dd_catalogue.specs.Harmony.{harmonised}
 use Rattle.dd_catalogue.specs.Versions.{IsCatalogue}
 use Rattle.dd_encoding.specs.Elements.{Elements, elements_of}
-use Rattle.dd_layout.specs.declared.label.Label.{Label}
-use Rattle.dd_layout.specs.ElementForms.{tag}
+use Rattle.dd_records.specs.declared.label.Label.{Label}
+use Rattle.dd_records.specs.ElementForms.{tag}
 use Rattle.dd_layout.specs.Paths.{Path, is_path, leads_to, parent_of}
 use Rattle.dd_layout.specs.Plans.{at, at_or_none, level_of, path_of, record_at, tree}
-use Rattle.dd_layout.specs.Records.{kind_of}
+use Rattle.dd_records.specs.Records.{kind_of}
 use Rattle.dd_dir.specs.Directories.{elements_for}
 use Rattle.dd_dir.specs.Reading.{IsWalk}
 use Rattle.dd_dir.specs.Saying.{key_of}

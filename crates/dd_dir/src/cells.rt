@@ -2,7 +2,7 @@
 
 ghost use Rattle.std.specs.Prelude.{◌+◌, ◌<◌, ◌^◌, IsOk, length, map};
 ghost use Rattle.std.specs.List.{AllByRecursion};
-ghost use Rattle.dd_layout.specs.Cells.{IsShort, IsShortElement, cell_element, even_value, table_elements};
+ghost use Rattle.dd_records.specs.Cells.{IsShort, IsShortElement, cell_element, even_value, table_elements};
 ghost use Rattle.dd_encoding.specs.Elements.{elements_of};
 ghost use Rattle.dd_stream.specs.Sends.{SendsTo};
 ghost use Rattle.dd_set.specs.Single.{element_text};
@@ -10,7 +10,7 @@ ghost use Rattle.dd_encoding.specs.Spelling.{elements_text};
 
 use dd_elem::Write;
 use dd_encoding::send_header;
-use dd_layout::{Cell, PlanRecord, Row};
+use dd_records::{Cell, PlanRecord, Row};
 use dd_stream::{WriteFault, send};
 use dd_version::Parts;
 

@@ -13,7 +13,8 @@ use crate::directory_writing::write_directory;
 use dd_catalogue::{Catalogue, Harmony};
 use dd_elem::{SetId, Uid};
 use dd_hashing::Digester;
-use dd_layout::{Label, Limits, Plan, PlanFault, lay_out, lay_out_harmony};
+use dd_layout::{Limits, Plan, PlanFault, lay_out, lay_out_harmony};
+use dd_records::Label;
 use std::alloc::Global;
 
 /// The UID in the directory that is hashed.

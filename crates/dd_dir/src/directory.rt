@@ -12,12 +12,12 @@ use crate::fault::DirFault;
 use crate::pending::items_of;
 use crate::values::{clean_at, number_at};
 use dd_elem::Uid;
-use dd_layout::table::CREATOR;
-use dd_layout::{
+use dd_part10::Meta;
+use dd_records::table::CREATOR;
+use dd_records::{
     DIRECTORY_CLASS, DIRECTORY_SYNTAX, FIRST_ROOT, LAST_ROOT, PRIVATE_CREATOR, RECORDS, SET_ID,
     WITHDRAWN,
 };
-use dd_part10::Meta;
 use dd_set::{DataSet, Item, Syntax, value_at};
 use std::alloc::Global;
 

@@ -9,7 +9,7 @@ ghost use Rattle.dd_elem.specs.Ordered.{bytes_cmp};
 ghost use Rattle.dd_elem.specs.SetId.{IsSetId};
 ghost use Rattle.dd_elem.specs.Uid.{IsUid};
 ghost use Rattle.dd_version.specs.declared.parts.Parts.{Parts};
-ghost use Rattle.dd_layout.specs.Directory.{first_offset};
+ghost use Rattle.dd_records.specs.Directory.{first_offset};
 ghost use Rattle.dd_layout.specs.Plans.{records_end, size};
 ghost use Rattle.dd_stream.specs.Sends.{SendsTo};
 ghost use Rattle.dd_dir.specs.Directories.{IsDirectory, OffsetsWithin, directory_of, opening_text};
@@ -22,7 +22,8 @@ use crate::roots::{first_root, last_root};
 use crate::withdrawal_writing::send_withdrawals;
 use dd_elem::{Vr, Write};
 use dd_encoding::{send_header, write_head};
-use dd_layout::{Plan, RECORDS, directory_meta, first_offset, front_cells, withdrawals_size};
+use dd_layout::Plan;
+use dd_records::{RECORDS, directory_meta, first_offset, front_cells, withdrawals_size};
 use dd_stream::WriteFault;
 
 /// Sends the bytes of the directory, and answers how many they are (PS3.3 section F.3.2, PS3.10 section

@@ -6,7 +6,7 @@ ghost use Rattle.dd_catalogue.specs.Harmony.{harmonised};
 ghost use Rattle.dd_catalogue.specs.Histories.{taken};
 ghost use Rattle.dd_catalogue.specs.declared.history.History.{History};
 ghost use Rattle.dd_version.specs.declared.parts.Parts.{Parts};
-ghost use Rattle.dd_layout.specs.declared.label.Label.{Label};
+ghost use Rattle.dd_records.specs.declared.label.Label.{Label};
 ghost use Rattle.dd_layout.specs.Layouts.{IsSound};
 ghost use Rattle.dd_layout.specs.Plans.{records_of, size};
 ghost use Rattle.dd_layout.specs.Worked.{four_images, unnamed};

@@ -6,7 +6,7 @@ ghost use Rattle.dd_dir.specs.Saying.{links_in};
 ghost use Rattle.dd_dir.specs.ReadAnswers.{links_view};
 
 use crate::values::{flag_at, number_at, text_at};
-use dd_layout::table::{IN_USE, KIND, LOWER, NEXT};
+use dd_records::table::{IN_USE, KIND, LOWER, NEXT};
 use dd_set::DataSet;
 
 /// What each record begins with.

@@ -10,7 +10,7 @@ use crate::forest::Tree;
 use crate::own_checks::fault_at;
 use crate::own_fault::OwnFault;
 use crate::record_keys::{PatientRecord, SeriesRecord, StudyRecord};
-use dd_layout::Level;
+use dd_records::Level;
 use dd_set::DataSet;
 
 /// The records above a record: none at the root, and else one of each level down to an image.

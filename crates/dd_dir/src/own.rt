@@ -16,7 +16,7 @@ use crate::record_keys::row_value;
 use crate::withdrawn::{check_withdrawn, withdrawn_uids};
 use dd_catalogue::Catalogue;
 use dd_elem::{Memory, Uid};
-use dd_layout::table::{FILE, INSTANCE};
+use dd_records::table::{FILE, INSTANCE};
 use dd_version::Version;
 use std::alloc::Global;
 

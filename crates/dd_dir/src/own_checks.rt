@@ -9,7 +9,7 @@ use crate::forest::Tree;
 use crate::own_fault::OwnFault;
 use crate::values::digest_in;
 use dd_elem::{Key, Uid, is_file_id};
-use dd_layout::{Field, Level, Row, rows};
+use dd_records::{Field, Level, Row, rows};
 use dd_set::{DataSet, value_at};
 use dd_version::{is_image_class, is_known_syntax};
 

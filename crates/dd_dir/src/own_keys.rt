@@ -6,7 +6,7 @@
 ghost use Rattle.std.specs.Prelude.{◌≡◌, true, is_some, IfOk};
 ghost use Rattle.dd_elem.specs.Key.{IsKey};
 ghost use Rattle.dd_elem.specs.Uid.{is_uid};
-ghost use Rattle.dd_layout.specs.declared.level.Level.TheVariants.{Patient, Study, Series};
+ghost use Rattle.dd_records.specs.declared.level.Level.TheVariants.{Patient, Study, Series};
 ghost use Rattle.dd_set.specs.Views.{set_view};
 ghost use Rattle.dd_dir.specs.OwnVersions.{digest_of, patient_in, series_in, study_in, version_of};
 ghost use Rattle.dd_dir.specs.OwnViews.{IsListed, Passes, listed_view};
@@ -16,7 +16,7 @@ use crate::listed_images::Listed;
 use crate::record_keys::{PatientRecord, SeriesRecord, StudyRecord, row_value};
 use crate::values::digest_in;
 use dd_elem::{Key, KeyRefused, Memory, Uid};
-use dd_layout::table::{CLASS, INSTANCE, NUMBER, TRANSFER};
+use dd_records::table::{CLASS, INSTANCE, NUMBER, TRANSFER};
 use dd_set::DataSet;
 use dd_version::{Parts, PatientKeys, SeriesKeys, StudyKeys, Version};
 use std::alloc::Global;

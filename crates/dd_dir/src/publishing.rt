@@ -13,7 +13,8 @@ use crate::buffer::Buffer;
 use crate::directory_writing::write_directory;
 use crate::well_formed::catalogue_is_held;
 use dd_catalogue::{Catalogue, History, build};
-use dd_layout::{Label, Limits, PlanFault, lay_out};
+use dd_layout::{Limits, PlanFault, lay_out};
+use dd_records::Label;
 use std::alloc::Global;
 
 /// Makes the bytes of the directory of these versions, in harmony, and of these withdrawn UIDs, under this label

@@ -5,12 +5,12 @@
 //! directory.
 
 ghost use Rattle.std.specs.Prelude.{◌≡◌};
-ghost use Rattle.dd_layout.specs.ElementForms.{tag};
+ghost use Rattle.dd_records.specs.ElementForms.{tag};
 ghost use Rattle.dd_set.specs.Views.{set_view};
 ghost use Rattle.dd_dir.specs.Saying.{key_of};
 
-use dd_layout::Row;
-use dd_layout::table::{
+use dd_records::Row;
+use dd_records::table::{
     ACCESSION, CHARSET, DESCRIPTION, MODALITY, PATIENT_ID, PATIENT_NAME, SERIES_NUMBER, SERIES_UID,
     STUDY_DATE, STUDY_ID, STUDY_TIME, STUDY_UID,
 };

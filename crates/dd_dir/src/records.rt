@@ -3,8 +3,8 @@
 ghost use Rattle.std.specs.Prelude.{◌≡◌, ◌+◌, ◌<◌, ◌^◌, All, IsOk, length, map};
 ghost use Rattle.std.specs.List.{AllByRecursion};
 ghost use Rattle.dd_layout.specs.Layouts.{IsSound};
-ghost use Rattle.dd_layout.specs.Records.{IsRecord, record_item};
-ghost use Rattle.dd_layout.specs.Sizes.{record_size};
+ghost use Rattle.dd_records.specs.Records.{IsRecord, record_item};
+ghost use Rattle.dd_records.specs.Sizes.{record_size};
 ghost use Rattle.dd_encoding.specs.Elements.{items_of};
 ghost use Rattle.dd_stream.specs.Sends.{SendsTo};
 ghost use Rattle.dd_set.specs.Single.{item_text};
@@ -16,7 +16,7 @@ use crate::cells::send_rows;
 use crate::well_formed::parts_of;
 use dd_elem::Write;
 use dd_encoding::{HEADER_SIZE, item_header};
-use dd_layout::{PlanRecord, rows};
+use dd_records::{PlanRecord, rows};
 use dd_stream::{WriteFault, send};
 use dd_version::Version;
 

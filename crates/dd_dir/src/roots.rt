@@ -2,11 +2,11 @@
 
 ghost use Rattle.std.specs.Prelude.{◌≡◌, List};
 ghost use Rattle.dd_version.specs.declared.parts.Parts.{Parts};
-ghost use Rattle.dd_layout.specs.declared.label.Label.{Label};
+ghost use Rattle.dd_records.specs.declared.label.Label.{Label};
 ghost use Rattle.dd_layout.specs.Plans.{records_of};
 ghost use Rattle.dd_dir.specs.Directories.{first_root, last_root};
 
-use dd_layout::{Level, PlanRecord};
+use dd_records::{Level, PlanRecord};
 
 pub(crate) fn first_root(records: &[PlanRecord]) -> u32
     ensures { (label : Label) (versions : List Parts) → records.now ≡ records_of label versions

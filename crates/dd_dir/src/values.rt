@@ -6,8 +6,8 @@ ghost use Rattle.dd_set.specs.Views.{set_view};
 ghost use Rattle.dd_dir.specs.Saying.{digest_in, value_of, number_of, flag_of, text_of};
 
 use dd_elem::{Tag, clean};
-use dd_layout::table::{CREATOR, DIGEST};
-use dd_layout::{FLAG_IN_USE, PRIVATE_CREATOR};
+use dd_records::table::{CREATOR, DIGEST};
+use dd_records::{FLAG_IN_USE, PRIVATE_CREATOR};
 use dd_set::{DataSet, Value, value_at};
 
 fn value_of<'a>(set: &DataSet<'a>, tag: Tag) -> Option<&'a [u8]>

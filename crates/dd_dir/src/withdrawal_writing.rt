@@ -2,8 +2,8 @@
 
 ghost use Rattle.std.specs.Prelude.{◌≡◌, ◌+◌, ◌<◌, ◌^◌, ◌++◌, ℕ, List, ◌∷◌, length};
 ghost use Rattle.std.specs.List.{join_with_byte};
-ghost use Rattle.dd_layout.specs.ElementForms.{padded};
-ghost use Rattle.dd_layout.specs.Withdrawals.{withdrawal_elements, withdrawals_size, withdrawn_value};
+ghost use Rattle.dd_records.specs.ElementForms.{padded};
+ghost use Rattle.dd_records.specs.Withdrawals.{withdrawal_elements, withdrawals_size, withdrawn_value};
 ghost use Rattle.dd_encoding.specs.Elements.{elements_of};
 ghost use Rattle.dd_stream.specs.Sends.{SendsTo};
 ghost use Rattle.dd_encoding.specs.Spelling.{elements_text};
@@ -11,7 +11,7 @@ ghost use Rattle.dd_encoding.specs.Spelling.{elements_text};
 use crate::cells::send_cells;
 use dd_elem::{Uid, Vr, Write};
 use dd_encoding::send_header;
-use dd_layout::{WITHDRAWN, creator_cell, withdrawn_length};
+use dd_records::{WITHDRAWN, creator_cell, withdrawn_length};
 use dd_stream::{WriteFault, send};
 
 /// Sends nothing where no UID is withdrawn.

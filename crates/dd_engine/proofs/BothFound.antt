@@ -21,8 +21,8 @@ use Rattle.dd_layout.specs.Plans.{size, tree}
 use Rattle.dd_layout.specs.Refusal.{conflict_or, crowded, crowding_or, excess, refusal}
 use Rattle.dd_layout.specs.declared.fault.PlanFault.{PlanFault}
 use Rattle.dd_layout.specs.declared.fault.PlanFault.TheVariants.{Conflict, TooLarge}
-use Rattle.dd_layout.specs.declared.label.Label.{Label}
-use Rattle.dd_layout.specs.declared.level.Level.{Level}
+use Rattle.dd_records.specs.declared.label.Label.{Label}
+use Rattle.dd_records.specs.declared.level.Level.{Level}
 use Rattle.dd_engine.specs.declared.choice.Choice.{Choice}
 use Rattle.dd_engine.specs.declared.notes.ConflictingFiles.{ConflictingFiles}
 use Rattle.dd_engine.specs.Choosing.{derivation, label_for, refusal_for}

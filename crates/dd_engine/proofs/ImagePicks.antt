@@ -15,10 +15,10 @@ use Rattle.dd_catalogue.proofs.BestMembers.{best_is_best}
 use Rattle.dd_catalogue.specs.Rising.{by_test}
 use Rattle.dd_catalogue.specs.Versions.{best_of, versions_ordered}
 use Rattle.dd_version.specs.declared.parts.Parts.{Parts}
-use Rattle.dd_layout.specs.contracts.level.Level.{the_type}
-use Rattle.dd_layout.specs.declared.level.Level.{Level}
-use Rattle.dd_layout.specs.declared.level.Level.TheVariants.{Patient, Study, Series, Image}
-use Rattle.dd_layout.specs.declared.record.PlanRecord.{PlanRecord}
+use Rattle.dd_records.specs.contracts.level.Level.{the_type}
+use Rattle.dd_records.specs.declared.level.Level.{Level}
+use Rattle.dd_records.specs.declared.level.Level.TheVariants.{Patient, Study, Series, Image}
+use Rattle.dd_records.specs.declared.record.PlanRecord.{PlanRecord}
 use Rattle.dd_engine.specs.Picking.{AreHeld, ArePicked, FileKey, file_of, found, found_by, is_image, is_one}
 use Rattle.dd_engine.proofs.FirstMarks.{file_total, one_file}
 

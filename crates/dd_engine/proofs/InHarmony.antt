@@ -12,7 +12,7 @@ use Rattle.dd_layout.specs.Limits.{Limits}
 use Rattle.dd_layout.specs.Refusal.{conflict_or, excess, refusal}
 use Rattle.dd_layout.specs.declared.fault.PlanFault.{PlanFault}
 use Rattle.dd_layout.specs.declared.fault.PlanFault.TheVariants.{Conflict}
-use Rattle.dd_layout.specs.declared.label.Label.{Label}
+use Rattle.dd_records.specs.declared.label.Label.{Label}
 use Rattle.dd_engine.specs.declared.choice.Choice.{Choice}
 use Rattle.dd_engine.specs.Choosing.{derivation, label_for, refusal_for, uid_by}
 

@@ -15,7 +15,7 @@ use Rattle.dd_catalogue.specs.Versions.{instance_of}
 use Rattle.dd_catalogue.proofs.Members.{Member}
 use Rattle.dd_elem.specs.Ordered.{bytes_cmp}
 use Rattle.dd_version.specs.declared.parts.Parts.{Parts}
-use Rattle.dd_layout.specs.declared.record.PlanRecord.{PlanRecord}
+use Rattle.dd_records.specs.declared.record.PlanRecord.{PlanRecord}
 use Rattle.dd_engine.specs.declared.marks.Mark.{Mark}
 use Rattle.dd_engine.specs.Picking.{AreHeld, ArePicked, FileKey, file_of, files_of, found, found_by, is_image, is_one}
 use Rattle.dd_engine.specs.Picking.{key_of, mark_cmp, mark_view, taken_of}

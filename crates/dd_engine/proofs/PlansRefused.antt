@@ -10,8 +10,8 @@ use Rattle.dd_layout.specs.Limits.{Limits}
 use Rattle.dd_layout.specs.Plans.{size, tree}
 use Rattle.dd_layout.specs.Refusal.{conflict_or, crowded, crowding_or, refusal}
 use Rattle.dd_layout.specs.declared.fault.PlanFault.TheVariants as plans
-use Rattle.dd_layout.specs.declared.label.Label.{Label}
-use Rattle.dd_layout.specs.declared.level.Level.{Level}
+use Rattle.dd_records.specs.declared.label.Label.{Label}
+use Rattle.dd_records.specs.declared.level.Level.{Level}
 use Rattle.dd_engine.specs.declared.choice.Choice.{Choice}
 use Rattle.dd_engine.specs.Choosing.{derivation, label_for, refusal_for}
 use Rattle.dd_engine.proofs.BothFound.{one_of}

@@ -9,7 +9,7 @@ use Rattle.dd_dir.specs.Directories.{directory_of, unnamed_label}
 use Rattle.dd_elem.specs.Digests.{uid_of_digest}
 use Rattle.dd_version.specs.declared.parts.Parts.{Parts}
 use Rattle.dd_layout.specs.declared.fault.PlanFault.{PlanFault}
-use Rattle.dd_layout.specs.declared.label.Label.{Label}
+use Rattle.dd_records.specs.declared.label.Label.{Label}
 use Rattle.dd_layout.specs.Limits.{Limits}
 use Rattle.dd_layout.specs.Layouts.{layout_of}
 use Rattle.dd_layout.specs.Refusal.{conflict_or, excess, refusal}

@@ -2,7 +2,7 @@
 use Rattle.std.specs.Prelude.{ℕ, List, Option, None, Some}
 use Rattle.dd_version.specs.declared.parts.Parts.{Parts}
 use Rattle.dd_layout.specs.declared.fault.PlanFault.{PlanFault}
-use Rattle.dd_layout.specs.declared.label.Label.{Label}
+use Rattle.dd_records.specs.declared.label.Label.{Label}
 use Rattle.dd_layout.specs.Limits.{Limits}
 use Rattle.dd_layout.specs.Refusal.{refusal}
 use Rattle.dd_engine.specs.declared.choice.Choice.{Choice}

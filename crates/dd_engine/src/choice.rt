@@ -9,7 +9,8 @@ ghost use Rattle.dd_engine.specs.Choosing.{label_for, refusal_for};
 use dd_catalogue::Catalogue;
 use dd_dir::lay_out_derived_harmony;
 use dd_elem::{SetId, Uid};
-use dd_layout::{Label, Limits, Plan, PlanFault, lay_out_harmony};
+use dd_layout::{Limits, Plan, PlanFault, lay_out_harmony};
+use dd_records::Label;
 use std::alloc::Global;
 
 /// The label that is asked for a file-set.

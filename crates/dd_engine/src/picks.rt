@@ -6,7 +6,8 @@ ghost use Rattle.dd_engine.specs.Picking.{AreHeld, file_of, files_of, found, tak
 use crate::marks::{first_mark, in_order, marks_of};
 use dd_catalogue::Kept;
 use dd_elem::Memory;
-use dd_layout::{Level, Plan};
+use dd_layout::Plan;
+use dd_records::Level;
 use dd_version::Version;
 use std::alloc::Global;
 

@@ -13,7 +13,7 @@ use Rattle.dd_files.specs.PowerCuts.{IsAllStored}
 use Rattle.dd_filing.specs.declared.agreeing.Filed.TheVariants.{AsPlanned}
 use Rattle.dd_filing.specs.Filing.{IsFileAs}
 use Rattle.dd_version.specs.declared.parts.Parts.{Parts}
-use Rattle.dd_layout.specs.declared.record.PlanRecord.{PlanRecord}
+use Rattle.dd_records.specs.declared.record.PlanRecord.{PlanRecord}
 use Rattle.dd_layout.specs.Layouts.{Layout}
 use Rattle.dd_file_set.specs.Made.{HasAtOne, IsImagePath, IsPlace, MakesFileSet, MakesImage, MakesRows}
 use Rattle.dd_file_set.specs.Standing.{AllStand, IsOfOne, StandsWhole, picked_rows}

@@ -16,7 +16,7 @@ use Rattle.dd_filing.specs.declared.agreeing.Filed.{Filed}
 use Rattle.dd_filing.specs.declared.agreeing.Filed.TheVariants.{AsPlanned}
 use Rattle.dd_filing.specs.declared.copying.FilingFault.{FilingFault}
 use Rattle.dd_filing.specs.declared.copying.FilingFault.TheVariants as copy
-use Rattle.dd_layout.specs.declared.record.PlanRecord.{PlanRecord}
+use Rattle.dd_records.specs.declared.record.PlanRecord.{PlanRecord}
 use Rattle.dd_version.specs.declared.parts.Parts.{Parts}
 use Rattle.dd_file_set.proofs.ImagesMade.{named}
 use Rattle.dd_file_set.proofs.Unlinked.{bytes_by}

@@ -5,7 +5,7 @@ use Rattle.std.specs.Prelude.{All, IfSome, IsSomeAnd, zip}
 use Rattle.dd_elem.specs.FileId.{Ranks}
 use Rattle.dd_files.specs.Files.{Held}
 use Rattle.dd_version.specs.declared.parts.Parts.{Parts}
-use Rattle.dd_layout.specs.declared.record.PlanRecord.{PlanRecord}
+use Rattle.dd_records.specs.declared.record.PlanRecord.{PlanRecord}
 use Rattle.dd_layout.specs.Layouts.{Layout}
 use Rattle.dd_file_set.specs.Made.{MakesFileSet, MakesImage, MakesRow, MakesRows}
 

@@ -4,7 +4,7 @@ use Rattle.std.specs.Prelude.{IsSome, slice_get}
 use Rattle.dd_files.specs.Files.{Held}
 use Rattle.dd_filing.specs.Filing.{IsFileAs}
 use Rattle.dd_filing.specs.declared.agreeing.Filed.TheVariants.{AsPlanned}
-use Rattle.dd_layout.specs.declared.record.PlanRecord.{PlanRecord}
+use Rattle.dd_records.specs.declared.record.PlanRecord.{PlanRecord}
 use Rattle.dd_version.specs.declared.parts.Parts.{Parts}
 use Rattle.dd_file_set.specs.declared.refusal.ProgramFault.{ProgramFault}
 use Rattle.dd_file_set.specs.declared.refusal.ProgramFault.TheVariants.{Changed}

@@ -24,7 +24,7 @@ use crate::refusal::{ProgramFault, Refusal, Subject};
 use dd_elem::FileId;
 use dd_files::{Files, Progress, SOURCE_LIMIT, Step, file_path};
 use dd_filing::{Ahead, FileAhead, Filed, FilesAhead, FilingFault, file_image, one_filed};
-use dd_layout::PlanRecord;
+use dd_records::PlanRecord;
 use std::alloc::Global;
 
 #[derive(Drop)]

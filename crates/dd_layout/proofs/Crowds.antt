@@ -7,9 +7,9 @@ use Rattle.std.proofs.lemmas.Bool.{and_from, and_parts, or_cases, or_left, or_ri
 use Rattle.std.proofs.lemmas.Bool.{lt-ltb, ltb-false, ltb-true}
 use Rattle.dd_catalogue.proofs.Members.{Member}
 use Rattle.dd_catalogue.specs.Rising.{by_test}
-use Rattle.dd_layout.specs.declared.level.Level.{Level}
-use Rattle.dd_layout.specs.declared.level.Level.TheVariants.{Patient, Study, Series, Image}
-use Rattle.dd_layout.specs.Levels.{levels}
+use Rattle.dd_records.specs.declared.level.Level.{Level}
+use Rattle.dd_records.specs.declared.level.Level.TheVariants.{Patient, Study, Series, Image}
+use Rattle.dd_records.specs.Levels.{levels}
 use Rattle.dd_layout.specs.Numbering.{topmost}
 use Rattle.dd_layout.specs.Paths.{Path, is_path, parent_of, are_siblings}
 use Rattle.dd_layout.specs.Plans.{level_of}

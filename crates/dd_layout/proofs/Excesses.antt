@@ -4,8 +4,8 @@ use Rattle.std.proofs.Common.{◌∙◌, ap}
 use Rattle.std.proofs.lemmas.Bool.{le-ltb, lt-ltb}
 use Rattle.dd_version.specs.declared.parts.Parts.{Parts}
 use Rattle.dd_layout.specs.declared.fault.PlanFault.TheVariants.{TooLarge, TooMany}
-use Rattle.dd_layout.specs.declared.label.Label.{Label}
-use Rattle.dd_layout.specs.declared.level.Level.{Level}
+use Rattle.dd_records.specs.declared.label.Label.{Label}
+use Rattle.dd_records.specs.declared.level.Level.{Level}
 use Rattle.dd_layout.specs.Limits.{Limits}
 use Rattle.dd_layout.specs.Plans.{size, tree}
 use Rattle.dd_layout.specs.Refusal.{crowded, crowding_or, excess, oversize}

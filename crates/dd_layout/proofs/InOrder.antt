@@ -10,7 +10,7 @@ use Rattle.std.proofs.lemmas.List.{take_more, take_all, length-take-le}
 use Rattle.std.proofs.lemmas.List.Sorted.{ranks_by, sorted_far}
 use Rattle.dd_version.specs.declared.parts.Parts.{Parts}
 use Rattle.dd_layout.specs.declared.order.Placed.{Placed}
-use Rattle.dd_layout.specs.Levels.{levels}
+use Rattle.dd_records.specs.Levels.{levels}
 use Rattle.dd_layout.specs.Paths.{Path, path_cmp, is_before, prefixes}
 use Rattle.dd_layout.specs.Plans.{path_of}
 use Rattle.dd_layout.specs.WalkedRecords.{Standing, standing, standings, AreInOrder, record_here}

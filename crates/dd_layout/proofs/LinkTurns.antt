@@ -2,7 +2,7 @@
 use Rattle.std.proofs.Common.{◌≡◌, ℕ, zero, suc, ◌-◌, ◌<◌, ◌≤◌, List, [], ◌∷◌, length, refl, sym, ◌∙◌, ap, arith}
 use Rattle.std.proofs.Common.{slice_index_or, slice_set}
 use Rattle.dd_layout.specs.declared.links.Later.{Later}
-use Rattle.dd_layout.specs.declared.record.PlanRecord.{PlanRecord}
+use Rattle.dd_records.specs.declared.record.PlanRecord.{PlanRecord}
 use Rattle.dd_layout.specs.Linking.{next_of, lower_of, later_from}
 use Rattle.dd_layout.proofs.LinkPass.{none_later, with_links, linked, linked_after, later_after}
 

@@ -7,16 +7,16 @@ use Rattle.std.proofs.lemmas.List.{append-nil, drop_all, take_all}
 use Rattle.std.proofs.lemmas.List.Elements.{All-map}
 use Rattle.std.proofs.lemmas.List.Edits.{map_over_more}
 use Rattle.dd_version.specs.declared.parts.Parts.{Parts}
-use Rattle.dd_layout.specs.declared.label.Label.{Label}
-use Rattle.dd_layout.specs.declared.level.Level.{Level}
-use Rattle.dd_layout.specs.declared.record.PlanRecord.{PlanRecord}
-use Rattle.dd_layout.specs.Directory.{first_offset}
+use Rattle.dd_records.specs.declared.label.Label.{Label}
+use Rattle.dd_records.specs.declared.level.Level.{Level}
+use Rattle.dd_records.specs.declared.record.PlanRecord.{PlanRecord}
+use Rattle.dd_records.specs.Directory.{first_offset}
 use Rattle.dd_layout.specs.Layouts.{IsLaidOut, IsSound, StandsWithin}
 use Rattle.dd_layout.specs.Paths.{Path, is_before}
 use Rattle.dd_layout.specs.Plans.{at, at_or_none, level_of, record_at, record_size_at, tree}
 use Rattle.dd_layout.specs.Stages.{bare_at, level_in, moved_offset, moved_record}
 use Rattle.dd_layout.specs.Tree.{first_child, next_sibling}
-use Rattle.dd_layout.proofs.DirectoryElements.{directory_length}
+use Rattle.dd_records.proofs.DirectoryElements.{directory_length}
 
 -- ---- the levels of records
 

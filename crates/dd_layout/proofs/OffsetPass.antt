@@ -1,13 +1,13 @@
 -- The offsets of records by one pass from the front.
 use Rattle.std.specs.Prelude.{ℕ, zero, suc, ◌+◌, List, [], ◌∷◌, Option, None, Some, slice_get, sum_by}
 use Rattle.dd_version.specs.declared.parts.Parts.{Parts}
-use Rattle.dd_layout.specs.declared.label.Label.{Label}
-use Rattle.dd_layout.specs.declared.record.PlanRecord.{PlanRecord}
-use Rattle.dd_layout.specs.Directory.{first_offset}
+use Rattle.dd_records.specs.declared.label.Label.{Label}
+use Rattle.dd_records.specs.declared.record.PlanRecord.{PlanRecord}
+use Rattle.dd_records.specs.Directory.{first_offset}
 use Rattle.dd_layout.specs.Paths.{Path}
 use Rattle.dd_layout.specs.Plans.{record_size_at}
-use Rattle.dd_layout.specs.Records.{record_elements}
-use Rattle.dd_layout.specs.Sizes.{record_size}
+use Rattle.dd_records.specs.Records.{record_elements}
+use Rattle.dd_records.specs.Sizes.{record_size}
 
 -- the size of a record with the keys of this version, and with the keys of the version that it is of
 abbrev pub weight_by : PlanRecord → Option Parts → ℕ

@@ -6,13 +6,13 @@ use Rattle.std.proofs.lemmas.List.{length-map}
 use Rattle.std.proofs.lemmas.List.Sums.{sum_by-cons, sum_by_push}
 use Rattle.dd_elem.specs.FileId.{Ranks}
 use Rattle.dd_version.specs.declared.parts.Parts.{Parts}
-use Rattle.dd_layout.specs.declared.label.Label.{Label}
-use Rattle.dd_layout.specs.declared.record.PlanRecord.{PlanRecord}
-use Rattle.dd_layout.specs.Directory.{first_offset}
+use Rattle.dd_records.specs.declared.label.Label.{Label}
+use Rattle.dd_records.specs.declared.record.PlanRecord.{PlanRecord}
+use Rattle.dd_records.specs.Directory.{first_offset}
 use Rattle.dd_layout.specs.Paths.{Path}
 use Rattle.dd_layout.specs.Plans.{path_of, tree, record_size_at, at, records_end}
-use Rattle.dd_layout.specs.Records.{IsFileOf, record_elements}
-use Rattle.dd_layout.specs.Sizes.{record_size}
+use Rattle.dd_records.specs.Records.{IsFileOf, record_elements}
+use Rattle.dd_records.specs.Sizes.{record_size}
 use Rattle.dd_layout.specs.Stages.{numbered_at, placed_at}
 use Rattle.dd_layout.proofs.Leasts.{least_of_each, paths_have_parts}
 use Rattle.dd_layout.proofs.Neighbourhood.{rows_are_known}

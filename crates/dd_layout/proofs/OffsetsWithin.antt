@@ -12,12 +12,12 @@ use Rattle.std.proofs.lemmas.Option.{none-some, same_Some}
 use Rattle.dd_catalogue.proofs.Members.{Member, member_of, contained}
 use Rattle.dd_catalogue.specs.Rising.{by_test}
 use Rattle.dd_version.specs.declared.parts.Parts.{Parts}
-use Rattle.dd_layout.specs.declared.label.Label.{Label}
+use Rattle.dd_records.specs.declared.label.Label.{Label}
 use Rattle.dd_layout.specs.Layouts.{StandsWithin}
 use Rattle.dd_layout.specs.Paths.{Path, is_before}
 use Rattle.dd_layout.specs.Plans.{at, at_or_none, least_below, record_at, record_size_at, records_end, records_of, size}
 use Rattle.dd_layout.specs.Plans.{size_of, tree}
-use Rattle.dd_layout.proofs.DirectoryElements.{directory_length}
+use Rattle.dd_records.proofs.DirectoryElements.{directory_length}
 use Rattle.dd_layout.proofs.Leasts.{least_in}
 use Rattle.dd_layout.proofs.RowsByWalk.{path_total}
 

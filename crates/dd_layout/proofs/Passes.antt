@@ -7,13 +7,13 @@ use Rattle.std.proofs.lemmas.List.{length-map}
 use Rattle.dd_catalogue.proofs.Members.{Member}
 use Rattle.dd_catalogue.specs.Rising.{by_test}
 use Rattle.dd_elem.specs.FileId.{Ranks, AreRanks, IsRank, max_rank, ranks_of}
-use Rattle.dd_layout.specs.declared.level.Level.{Level}
+use Rattle.dd_records.specs.declared.level.Level.{Level}
 use Rattle.dd_layout.specs.declared.ranks.Counters.{Counters}
 use Rattle.dd_layout.specs.Neighbours.{counted, counts_after}
 use Rattle.dd_layout.specs.Numbering.{after, count_of, counted_file, counters_of, file_if_ranks, is_rank, topmost}
 use Rattle.dd_layout.specs.Paths.{Path, prefixes}
 use Rattle.dd_layout.specs.Plans.{level_of, file_of}
-use Rattle.dd_layout.specs.Records.{IsFileOf}
+use Rattle.dd_records.specs.Records.{IsFileOf}
 use Rattle.dd_layout.specs.Tree.{rank, ranks_along}
 use Rattle.dd_layout.proofs.NumberPass.{noted, noted_from}
 use Rattle.dd_layout.proofs.TreeRows.{AreRows, IsRow}

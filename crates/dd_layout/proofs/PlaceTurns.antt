@@ -5,9 +5,9 @@ use Rattle.std.specs.Prelude.{sum_by}
 use Rattle.std.proofs.lemmas.List.Sums.{sum_by-cons}
 use Rattle.std.proofs.lemmas.Option.{slice_get_read}
 use Rattle.dd_version.specs.declared.parts.Parts.{Parts}
-use Rattle.dd_layout.specs.declared.record.PlanRecord.{PlanRecord}
-use Rattle.dd_layout.specs.Records.{record_elements}
-use Rattle.dd_layout.specs.Sizes.{record_size}
+use Rattle.dd_records.specs.declared.record.PlanRecord.{PlanRecord}
+use Rattle.dd_records.specs.Records.{record_elements}
+use Rattle.dd_records.specs.Sizes.{record_size}
 use Rattle.dd_layout.proofs.OffsetPass.{end_of, placed_to, weight, weight_by}
 
 -- the row of the turn

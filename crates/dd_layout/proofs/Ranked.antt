@@ -7,14 +7,14 @@ use Rattle.std.proofs.lemmas.List.Elements.{All-from_recursion, All-map}
 use Rattle.dd_catalogue.proofs.Members.{Member}
 use Rattle.dd_elem.specs.FileId.{Ranks, max_rank}
 use Rattle.dd_version.specs.declared.parts.Parts.{Parts}
-use Rattle.dd_layout.specs.declared.level.Level.{Level}
+use Rattle.dd_records.specs.declared.level.Level.{Level}
 use Rattle.dd_layout.specs.declared.ranks.Counters.{Counters}
-use Rattle.dd_layout.specs.declared.record.PlanRecord.{PlanRecord}
+use Rattle.dd_records.specs.declared.record.PlanRecord.{PlanRecord}
 use Rattle.dd_layout.specs.Neighbours.{counts_after}
 use Rattle.dd_layout.specs.Numbering.{counted_file, counters_of}
 use Rattle.dd_layout.specs.Paths.{Path, prefixes}
 use Rattle.dd_layout.specs.Plans.{file_of, level_of, tree}
-use Rattle.dd_layout.specs.Records.{IsFileOf}
+use Rattle.dd_records.specs.Records.{IsFileOf}
 use Rattle.dd_layout.specs.Refusal.{crowded}
 use Rattle.dd_layout.specs.Stages.{bare_at, level_in, numbered_at}
 use Rattle.dd_layout.specs.Tree.{rank}

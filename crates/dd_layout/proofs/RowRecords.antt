@@ -1,8 +1,8 @@
 -- The records of one version that a walk gives, level by level.
 use Rattle.std.specs.Prelude.{List}
 use Rattle.dd_version.specs.declared.parts.Parts.{Parts}
-use Rattle.dd_layout.specs.declared.level.Level.{Level}
-use Rattle.dd_layout.specs.declared.record.PlanRecord.{PlanRecord}
+use Rattle.dd_records.specs.declared.level.Level.{Level}
+use Rattle.dd_records.specs.declared.record.PlanRecord.{PlanRecord}
 use Rattle.dd_layout.specs.Stages.{bare_of}
 use Rattle.dd_layout.specs.WalkedRecords.{Standing, front_of, least_here}
 

@@ -7,7 +7,7 @@ use Rattle.dd_catalogue.specs.Harmony.{agreed, harmonised}
 use Rattle.dd_catalogue.proofs.Images.{agreed_image}
 use Rattle.dd_catalogue.proofs.Members.{Member}
 use Rattle.dd_version.specs.declared.parts.Parts.{Parts}
-use Rattle.dd_layout.specs.declared.label.Label.{Label}
+use Rattle.dd_records.specs.declared.label.Label.{Label}
 use Rattle.dd_layout.specs.Limits.{Limits}
 use Rattle.dd_layout.specs.Plans.{path_of, size, tree}
 use Rattle.dd_layout.specs.Refusal.{conflict_or, crowded, crowding_or, oversize, refusal}

@@ -14,7 +14,7 @@ use Rattle.dd_catalogue.specs.BestLaws.{best_of_rising}
 use Rattle.dd_catalogue.proofs.Members.{Member}
 use Rattle.dd_catalogue.proofs.BestMembers.{best_of_same}
 use Rattle.dd_catalogue.specs.Rising.{by_test, by_order, is_eq_Equal, above_trans, greater_turned}
-use Rattle.dd_layout.specs.declared.record.PlanRecord.{PlanRecord}
+use Rattle.dd_records.specs.declared.record.PlanRecord.{PlanRecord}
 use Rattle.dd_layout.specs.Paths.{Path, path_cmp, is_before, prefixes, leads_to}
 use Rattle.dd_layout.specs.Stages.{bare}
 use Rattle.dd_layout.specs.Tree.{tree_of}

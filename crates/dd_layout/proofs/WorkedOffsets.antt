@@ -4,7 +4,7 @@ use Rattle.std.proofs.Common.{refl}
 use Rattle.std.specs.Fmt.{digits}
 use Rattle.dd_elem.specs.FileId.{ranks_of, text_of}
 use Rattle.dd_encoding.specs.Head.{head_text, group_text}
-use Rattle.dd_layout.specs.declared.level.Level.TheVariants.{Patient, Study, Series, Image}
+use Rattle.dd_records.specs.declared.level.Level.TheVariants.{Patient, Study, Series, Image}
 use Rattle.dd_layout.specs.Plans.{at, records_of, size}
 use Rattle.dd_layout.specs.Worked.{planned, eleven_records, four_images, one_withdrawn, two_withdrawn, unnamed}
 

@@ -2,10 +2,10 @@
 use Rattle.std.specs.Prelude.{◌≡◌, ◌<◌, ℕ, List, All, length}
 use Rattle.dd_catalogue.specs.Harmony.{harmonised}
 use Rattle.dd_version.specs.declared.parts.Parts.{Parts}
-use Rattle.dd_layout.specs.declared.label.Label.{Label}
-use Rattle.dd_layout.specs.declared.record.PlanRecord.{PlanRecord}
+use Rattle.dd_records.specs.declared.label.Label.{Label}
+use Rattle.dd_records.specs.declared.record.PlanRecord.{PlanRecord}
 use Rattle.dd_layout.specs.Plans.{records_of, size}
-use Rattle.dd_layout.specs.Records.{IsFileOf}
+use Rattle.dd_records.specs.Records.{IsFileOf}
 
 pub record Layout : Type 0 where
   pub label : Label

@@ -1,7 +1,7 @@
 -- The links of a record by what stands after it, level by level.
 use Rattle.std.specs.Prelude.{ℕ}
-use Rattle.dd_layout.specs.declared.level.Level.{Level}
-use Rattle.dd_layout.specs.declared.level.Level.TheVariants.{Patient, Study, Series, Image}
+use Rattle.dd_records.specs.declared.level.Level.{Level}
+use Rattle.dd_records.specs.declared.level.Level.TheVariants.{Patient, Study, Series, Image}
 use Rattle.dd_layout.specs.declared.links.Later.{Later}
 
 -- the first record of this level, and of the level below

@@ -3,8 +3,8 @@
 use Rattle.std.specs.Prelude.{ℕ, ◌+◌, ◌&&◌, Bool, Option, None, Some, nat_le}
 use Rattle.std.specs.Prelude.{if◌then◌else◌}
 use Rattle.dd_elem.specs.FileId.{Ranks, max_rank, ranks_of}
-use Rattle.dd_layout.specs.declared.level.Level.{Level}
-use Rattle.dd_layout.specs.declared.level.Level.TheVariants.{Patient, Study, Series, Image}
+use Rattle.dd_records.specs.declared.level.Level.{Level}
+use Rattle.dd_records.specs.declared.level.Level.TheVariants.{Patient, Study, Series, Image}
 use Rattle.dd_layout.specs.declared.ranks.Counters.{Counters}
 
 abbrev pub counters_of : (patient study series image : ℕ) → Counters

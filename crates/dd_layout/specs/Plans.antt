@@ -3,16 +3,16 @@
 use Rattle.std.specs.Prelude.{ℕ, ◌+◌, List, [], ◌∷◌, map, Option, None, Some, slice_get, sum_by, if◌then◌else◌}
 use Rattle.dd_elem.specs.FileId.{Ranks, ranks_of}
 use Rattle.dd_version.specs.declared.parts.Parts.{Parts}
-use Rattle.dd_layout.specs.declared.label.Label.{Label}
-use Rattle.dd_layout.specs.declared.level.Level.{Level}
-use Rattle.dd_layout.specs.declared.level.Level.TheVariants.{Patient, Study, Series, Image}
-use Rattle.dd_layout.specs.declared.record.PlanRecord.{PlanRecord}
-use Rattle.dd_layout.specs.Directory.{first_offset}
+use Rattle.dd_records.specs.declared.label.Label.{Label}
+use Rattle.dd_records.specs.declared.level.Level.{Level}
+use Rattle.dd_records.specs.declared.level.Level.TheVariants.{Patient, Study, Series, Image}
+use Rattle.dd_records.specs.declared.record.PlanRecord.{PlanRecord}
+use Rattle.dd_records.specs.Directory.{first_offset}
 use Rattle.dd_layout.specs.Paths.{Path, leads_to}
-use Rattle.dd_layout.specs.Records.{record_elements}
-use Rattle.dd_layout.specs.Sizes.{record_size}
+use Rattle.dd_records.specs.Records.{record_elements}
+use Rattle.dd_records.specs.Sizes.{record_size}
 use Rattle.dd_layout.specs.Tree.{tree_of, ranks_along, offset, next_sibling, first_child}
-use Rattle.dd_layout.specs.Withdrawals.{withdrawals_size}
+use Rattle.dd_records.specs.Withdrawals.{withdrawals_size}
 
 -- ---- versions as paths
 

@@ -2,9 +2,9 @@
 -- offset. Also the records of a plan moved, as another label moves them.
 use Rattle.std.specs.Prelude.{ℕ, ◌+◌, ◌-◌, List, None, nat_lt, if◌then◌else◌}
 use Rattle.dd_version.specs.declared.parts.Parts.{Parts}
-use Rattle.dd_layout.specs.declared.label.Label.{Label}
-use Rattle.dd_layout.specs.declared.level.Level.{Level}
-use Rattle.dd_layout.specs.declared.record.PlanRecord.{PlanRecord}
+use Rattle.dd_records.specs.declared.label.Label.{Label}
+use Rattle.dd_records.specs.declared.level.Level.{Level}
+use Rattle.dd_records.specs.declared.record.PlanRecord.{PlanRecord}
 use Rattle.dd_layout.specs.Paths.{Path}
 use Rattle.dd_layout.specs.Plans.{tree, level_of, least_below, file_of, at}
 

@@ -1,8 +1,8 @@
 ghost use Rattle.std.specs.Prelude.{◌≡◌};
 ghost use Rattle.dd_layout.specs.declared.fault.PlanFault.TheVariants as faults;
 
-use crate::level::Level;
 use dd_elem::{self, Uid};
+use dd_records::Level;
 use std::alloc::{AllocError, AllocFailed};
 use thiserror::Error;
 

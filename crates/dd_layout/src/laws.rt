@@ -5,7 +5,7 @@ ghost use Rattle.dd_catalogue.specs.Best.{IsRising};
 ghost use Rattle.dd_catalogue.specs.Conflicts.{first_conflict};
 ghost use Rattle.dd_catalogue.specs.Harmony.{harmonised};
 ghost use Rattle.dd_version.specs.declared.parts.Parts.{Parts};
-ghost use Rattle.dd_layout.specs.declared.label.Label.{Label};
+ghost use Rattle.dd_records.specs.declared.label.Label.{Label};
 ghost use Rattle.dd_layout.specs.Limits.{Limits};
 ghost use Rattle.dd_layout.specs.Layouts.{StandsWithin};
 ghost use Rattle.dd_layout.specs.Neighbours.{IsKnown};

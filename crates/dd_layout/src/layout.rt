@@ -8,17 +8,15 @@ ghost use Rattle.dd_layout.specs.Refusal.{excess, refusal};
 ghost use Rattle.dd_layout.specs.Stages.{bare_at};
 
 use crate::fault::PlanFault;
-use crate::label::Label;
 use crate::limits::Limits;
 use crate::links::link;
 use crate::nodes::nodes;
 use crate::offsets::set_offsets;
 use crate::plan::Plan;
 use crate::ranks::{crowded_level, number};
-use crate::record::PlanRecord;
-use crate::withdrawal_elements::withdrawals_size;
 use dd_catalogue::{Catalogue, Harmony};
 use dd_elem::Uid;
+use dd_records::{Label, PlanRecord, withdrawals_size};
 use dd_version::Version;
 use std::alloc::Global;
 

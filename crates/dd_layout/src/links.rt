@@ -1,12 +1,11 @@
 ghost use Rattle.std.specs.Prelude.{◌≡◌, List, map};
 ghost use Rattle.dd_version.specs.declared.parts.Parts.{Parts};
-ghost use Rattle.dd_layout.specs.declared.label.Label.{Label};
+ghost use Rattle.dd_records.specs.declared.label.Label.{Label};
 ghost use Rattle.dd_layout.specs.Linking.{later_from, lower_of, next_of};
 ghost use Rattle.dd_layout.specs.Plans.{records_of, tree};
 ghost use Rattle.dd_layout.specs.Stages.{placed_at};
 
-use crate::level::Level;
-use crate::record::PlanRecord;
+use dd_records::{Level, PlanRecord};
 
 /// The next siblings, while records are walked from the last to the first. Each level has the offset of its first
 /// record that no record of a higher level precedes, or 0.

@@ -8,10 +8,9 @@ ghost use Rattle.dd_layout.specs.Stages.{bare_at};
 ghost use Rattle.dd_layout.specs.WalkedRecords.{front_of, least_run, path_before, record_here, records_from};
 ghost use Rattle.dd_layout.specs.WalkedRecords.{shared, standing};
 
-use crate::level::Level;
 use crate::order::{Placed, in_path_order, shared_length};
-use crate::record::PlanRecord;
 use dd_elem::Memory;
+use dd_records::{Level, PlanRecord};
 use dd_version::Version;
 use std::alloc::Global;
 

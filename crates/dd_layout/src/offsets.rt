@@ -1,12 +1,9 @@
 ghost use Rattle.std.specs.Prelude.{◌≡◌, ◌≤◌, All, map, IsSome, SomeIff};
 ghost use Rattle.dd_layout.specs.Plans.{records_end, tree};
-ghost use Rattle.dd_layout.specs.Records.{IsFileOf};
+ghost use Rattle.dd_records.specs.Records.{IsFileOf};
 ghost use Rattle.dd_layout.specs.Stages.{numbered_at, placed_at};
 
-use crate::front::first_offset;
-use crate::label::Label;
-use crate::record::PlanRecord;
-use crate::record_sizes::record_size;
+use dd_records::{Label, PlanRecord, first_offset, record_size};
 use dd_version::Version;
 
 /// Gives each record its offset, and answers where the last one ends: None where that is above `most`.

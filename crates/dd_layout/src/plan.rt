@@ -5,10 +5,9 @@ ghost use Rattle.dd_elem.specs.Ordered.{bytes_cmp};
 ghost use Rattle.dd_layout.specs.Layouts.{IsLaidOut, IsSound, StandsWithin};
 ghost use Rattle.dd_layout.specs.Plans.{records_of, size};
 
-use crate::label::Label;
-use crate::record::PlanRecord;
 use dd_catalogue::Catalogue;
 use dd_elem::Uid;
+use dd_records::{Label, PlanRecord};
 use dd_version::Version;
 use std::marker::Model;
 

@@ -5,13 +5,12 @@ ghost use Rattle.dd_elem.specs.FileId.{max_rank};
 ghost use Rattle.dd_version.specs.declared.parts.Parts.{Parts};
 ghost use Rattle.dd_layout.specs.Numbering.{after, count_of, counted_file, topmost};
 ghost use Rattle.dd_layout.specs.Plans.{level_of, tree};
-ghost use Rattle.dd_layout.specs.Records.{IsFileOf};
+ghost use Rattle.dd_records.specs.Records.{IsFileOf};
 ghost use Rattle.dd_layout.specs.Refusal.{crowded};
 ghost use Rattle.dd_layout.specs.Stages.{bare_at, level_in, numbered_at};
 
-use crate::level::Level;
-use crate::record::PlanRecord;
 use dd_elem::FileId;
+use dd_records::{Level, PlanRecord};
 
 /// Counts the records of each level below the present parent.
 #[derive(Clone, Copy)]

@@ -6,12 +6,10 @@ ghost use Rattle.dd_layout.specs.Refusal.{excess};
 ghost use Rattle.dd_layout.specs.Stages.{moved_offset, moved_record};
 
 use crate::fault::PlanFault;
-use crate::front::first_offset;
-use crate::label::Label;
 use crate::limits::Limits;
 use crate::plan::Plan;
 use crate::ranks::crowded_level;
-use crate::record::PlanRecord;
+use dd_records::{Label, PlanRecord, first_offset};
 
 impl Plan {
     /// Gives the plan or the fault that `lay_out` gives for the same catalogue under another label, within these

@@ -5,7 +5,7 @@ use Rattle.dd_set.specs.Views.{set_view}
 use Rattle.dd_encoding.specs.declared.meta.Meta.{Meta}
 use Rattle.dd_encoding.specs.Meta.{class_tag, instance_tag}
 use Rattle.dd_part10.specs.Reading.{FileParts}
-use Rattle.dd_layout.specs.ElementForms.{tag}
+use Rattle.dd_records.specs.ElementForms.{tag}
 use Rattle.dd_dir.specs.declared.forest.Tree.{Tree, out-Tree, the_lemmas}
 use Rattle.dd_dir.specs.ForestViews.{tree_view}
 use Rattle.dd_dir.specs.Saying.{digest_in, key_of}

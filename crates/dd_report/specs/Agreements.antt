@@ -15,9 +15,9 @@ use Rattle.dd_encoding.specs.Meta.{class_tag, instance_tag, transfer_tag}
 use Rattle.dd_part10.specs.Reading.{FileParts, file_in}
 use Rattle.dd_keys.specs.Table.{patient_id_row}
 use Rattle.dd_keys.specs.Values.{or_other}
-use Rattle.dd_layout.specs.declared.level.Level.TheVariants.{Image}
-use Rattle.dd_layout.specs.ElementForms.{tag}
-use Rattle.dd_layout.specs.Records.{kind_of}
+use Rattle.dd_records.specs.declared.level.Level.TheVariants.{Image}
+use Rattle.dd_records.specs.ElementForms.{tag}
+use Rattle.dd_records.specs.Records.{kind_of}
 use Rattle.dd_dir.specs.ForestViews.{Branch}
 use Rattle.dd_dir.specs.Saying.{digest_in, key_of}
 use Rattle.dd_dir.specs.Trees.{Node, Trees, no_trees, tree}

@@ -9,9 +9,9 @@ use Rattle.dd_elem.specs.declared.tag.Tag.{Tag}
 use Rattle.dd_elem.specs.Device.{counted, last_count}
 use Rattle.dd_keys.specs.Values.{value_at}
 use Rattle.dd_encoding.specs.Elements.{Elements}
-use Rattle.dd_layout.specs.declared.level.Level.TheVariants.{Patient, Study, Series, Image}
-use Rattle.dd_layout.specs.ElementForms.{tag}
-use Rattle.dd_layout.specs.Records.{kind_of}
+use Rattle.dd_records.specs.declared.level.Level.TheVariants.{Patient, Study, Series, Image}
+use Rattle.dd_records.specs.ElementForms.{tag}
+use Rattle.dd_records.specs.Records.{kind_of}
 use Rattle.dd_version.specs.Fitting.{is_empty}
 use Rattle.dd_dir.specs.ForestViews.{Branch}
 use Rattle.dd_dir.specs.Saying.{key_of}

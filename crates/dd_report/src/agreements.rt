@@ -10,7 +10,7 @@ ghost use Rattle.dd_part10.specs.Faults.{SaysMemory};
 ghost use Rattle.dd_part10.specs.Memory.{IsRefused};
 ghost use Rattle.dd_part10.specs.Reading.{FileParts};
 ghost use Rattle.dd_part10.specs.Taking.{IsScanned};
-ghost use Rattle.dd_layout.specs.ElementForms.{tag};
+ghost use Rattle.dd_records.specs.ElementForms.{tag};
 ghost use Rattle.dd_dir.specs.ForestViews.{tree_view};
 ghost use Rattle.dd_dir.specs.Saying.{key_of};
 ghost use Rattle.dd_dir.specs.Trees.{Node};
@@ -28,8 +28,8 @@ use dd_dir::{Tree, digest_in};
 use dd_elem::{Memory, Read, Tag, Uid, tags};
 use dd_files::SOURCE_LIMIT;
 use dd_keys::read_kept;
-use dd_layout::table::{CLASS, INSTANCE, TRANSFER};
 use dd_part10::{self, FileFault, Scanned, StreamFault};
+use dd_records::table::{CLASS, INSTANCE, TRANSFER};
 use dd_scan::{Found, Summary};
 use dd_slots::Slot;
 

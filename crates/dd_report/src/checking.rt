@@ -22,8 +22,8 @@ use dd_dir::{Forest, Tree};
 use dd_elem::{Memory, Read, Write};
 use dd_files::{Files, Progress, Step, file_path};
 use dd_json::Style;
-use dd_layout::Level;
 use dd_lines::LineBuffer;
+use dd_records::Level;
 use std::alloc::Global;
 use std::fmt;
 

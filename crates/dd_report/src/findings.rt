@@ -15,8 +15,8 @@ use dd_dir::{Tree, digest_in};
 use dd_elem::{Read, Tag, is_file_id};
 use dd_files::digest_of;
 use dd_keys::value_at;
-use dd_layout::table::FILE;
 use dd_part10::FileFault;
+use dd_records::table::FILE;
 use dd_slots::Slot;
 
 /// Says what is wrong with the file that a record names.

@@ -7,8 +7,8 @@ ghost use Rattle.dd_lines.specs.Telling.{Tells, shown, way_of};
 
 use crate::listing::value_or_dash;
 use dd_elem::{Tag, Write, tags};
-use dd_layout::Level;
 use dd_lines::LineBuffer;
+use dd_records::Level;
 use dd_set::DataSet;
 use std::fmt;
 

@@ -9,7 +9,7 @@ use Rattle.dd_engine.specs.Indexing.{accepted, accepted_from}
 use Rattle.dd_engine.specs.PastFailures.{Reading, answers_of}
 use Rattle.dd_engine.specs.Picking.{ArePicked, FileKey, file_of, files_of, found, found_by, is_image, is_one}
 use Rattle.dd_files.specs.Files.{Held}
-use Rattle.dd_layout.specs.declared.record.PlanRecord.{PlanRecord}
+use Rattle.dd_records.specs.declared.record.PlanRecord.{PlanRecord}
 use Rattle.dd_version.specs.declared.parts.Parts.{Parts}
 use Rattle.dd_file_set.proofs.Unlinked.{SaysToo}
 use Rattle.dicomdir.specs.Indexes.{AnswersName, AreRead, IsRead}

@@ -3,7 +3,8 @@ ghost use Rattle.std.specs.Prelude.{◌≡◌};
 
 use crate::note_lines::UidText;
 use dd_files::{Files, Hints};
-use dd_layout::{Level, Plan};
+use dd_layout::Plan;
+use dd_records::Level;
 use dd_version::StudyKeys;
 use itoa::Buffer;
 use std::fmt::{self, InlineText};

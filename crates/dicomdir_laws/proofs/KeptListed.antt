@@ -21,7 +21,7 @@ use Rattle.dd_engine.specs.Indexing.{accepted, versions_of}
 use Rattle.dd_engine.specs.Merging.{numbered, versions_in, withdrawn_in}
 use Rattle.dd_engine.specs.PastFailures.{answers_of}
 use Rattle.dd_files.specs.Files.{Held}
-use Rattle.dd_layout.specs.declared.label.Label.{Label}
+use Rattle.dd_records.specs.declared.label.Label.{Label}
 use Rattle.dd_layout.specs.Layouts.{Layout, layout_of}
 use Rattle.dd_line.specs.Line.{given_for, instance_name, out_name, set_name}
 use Rattle.dd_line.specs.Requests.{IsOnly}

@@ -1,7 +1,8 @@
 //! Which plans there are within limits, and how many bytes the directories have.
 
 use crate::plans::plans::planned;
-use dd_layout::{Level, Limits, PlanFault};
+use dd_layout::{Limits, PlanFault};
+use dd_records::Level;
 use dd_vectors::ask_all;
 use std::alloc::Global;
 use std::test::Fail;

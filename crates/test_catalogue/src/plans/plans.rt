@@ -1,7 +1,8 @@
 //! Plans of catalogues.
 
 use dd_elem::{FileId, SetId, Uid};
-use dd_layout::{Label, Limits, Plan, PlanFault, lay_out, lay_out_harmony};
+use dd_layout::{Limits, Plan, PlanFault, lay_out, lay_out_harmony};
+use dd_records::Label;
 use dd_vectors::{catalogue_of, taken};
 use std::alloc::Global;
 use std::test::Fail;

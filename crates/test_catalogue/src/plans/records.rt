@@ -2,7 +2,8 @@
 
 use crate::catalogue::studies::push_study;
 use crate::plans::plans::plan;
-use dd_layout::{Plan, PlanRecord};
+use dd_layout::Plan;
+use dd_records::PlanRecord;
 use dd_vectors::ask_all;
 use std::alloc::Global;
 use std::test::Fail;

@@ -1,6 +1,7 @@
 use dd_dir::publish;
 use dd_elem::{FileId, SetId, Uid};
-use dd_layout::{Label, Limits};
+use dd_layout::Limits;
+use dd_records::Label;
 use dd_vectors::{catalogue_of, first_directory, put_words, v2, v3};
 use std::alloc::{AllocError, Global};
 use std::test::Fail;

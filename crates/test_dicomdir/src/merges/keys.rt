@@ -1,7 +1,8 @@
 //! The keys that images have after a merge of catalogues, and after one of their directories.
 
 use crate::merges::directories::{directories, label, slices, widest};
-use dd_layout::{Label, lay_out};
+use dd_layout::lay_out;
+use dd_records::Label;
 use dd_vectors::{ask_all, catalogue_of, in_words};
 use dd_version::Version;
 use dicomdir::{Choice, merge_engine};

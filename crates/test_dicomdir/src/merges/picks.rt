@@ -1,7 +1,8 @@
 //! Which files a merge picks, and why it is refused.
 
 use crate::merges::directories::{directories, label, slices, widest};
-use dd_layout::{Label, Limits};
+use dd_layout::Limits;
+use dd_records::Label;
 use dd_vectors::ask_all;
 use dicomdir::{Choice, MergeFault, Merged, first_saying, merge_engine};
 use std::alloc::Global;

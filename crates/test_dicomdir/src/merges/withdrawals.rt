@@ -1,7 +1,8 @@
 use crate::merges::directories::{directories, label};
 use crate::merges::picks::{in_words, refused};
 use dd_elem::Uid;
-use dd_layout::{Label, Limits};
+use dd_layout::Limits;
+use dd_records::Label;
 use dd_vectors::ask_all;
 use dicomdir::{Choice, withdraw_engine};
 use std::alloc::Global;

@@ -1,7 +1,7 @@
 use Rattle.std.proofs.Common.{◌≡◌, ℕ, List, ◌++◌, refl, ap, ◌∙◌}
 use Rattle.std.proofs.lemmas.Result.{err_from_is_err_and}
 use Rattle.dd_stream.proofs.Going.{first_fails, then_sends, sends_same}
-use Rattle.dd_layout.specs.Cells.{even_value}
+use Rattle.dd_records.specs.Cells.{even_value}
 use Rattle.dd_dir.proofs.CellTexts.{cell_parts, cell_room}
 use Rattle.dd_dir.proofs.cells.send_cell.Goals as goal
 

@@ -1,6 +1,6 @@
 use Rattle.std.proofs.Common.{drop, map}
 use Rattle.std.specs.List.{AllByRecursion}
-use Rattle.dd_layout.specs.Cells.{IsShortElement, cell_element}
+use Rattle.dd_records.specs.Cells.{IsShortElement, cell_element}
 use Rattle.dd_encoding.specs.Elements.{elements_of}
 use Rattle.dd_encoding.specs.Spelling.{elements_text}
 use Rattle.dd_stream.proofs.Going.{GoesOn}

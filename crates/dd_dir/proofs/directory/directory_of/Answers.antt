@@ -6,7 +6,7 @@ use Rattle.std.proofs.lemmas.List.{with_items_is, length-map}
 use Rattle.dd_set.specs.Starts.{places_in}
 use Rattle.dd_encoding.specs.Spelling.{elements_text}
 use Rattle.dd_set.specs.Views.{set_view, items_view}
-use Rattle.dd_layout.specs.ElementForms.{tag}
+use Rattle.dd_records.specs.ElementForms.{tag}
 use Rattle.dd_dir.specs.declared.fault.DirFault.TheVariants.{Memory}
 use Rattle.dd_dir.specs.Reading.{Contents}
 use Rattle.dd_dir.specs.Saying.{sets_of, beside_in}

@@ -1,6 +1,6 @@
 use Rattle.std.proofs.Common.{◌<◌, ◌^◌, map, rules}
 use Rattle.std.proofs.lemmas.Result.{err_from_is_err_and}
-use Rattle.dd_layout.specs.Cells.{cell_element}
+use Rattle.dd_records.specs.Cells.{cell_element}
 use Rattle.dd_stream.proofs.Going.{first_fails, then_sends, sends_same}
 use Rattle.dd_dir.proofs.DirectoryTexts.{opening_parts, second_piece_fits, third_piece_fits}
 use Rattle.dd_dir.proofs.directory_writing.send_opening.Goals as goal

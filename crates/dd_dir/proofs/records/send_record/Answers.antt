@@ -1,9 +1,9 @@
 use Rattle.std.proofs.Common.{ap, sym, subst, ◌-◌, ◌∙◌, arith}
 use Rattle.std.specs.List.{AllByRecursion}
 use Rattle.std.proofs.lemmas.Result.{err_from_is_err_and}
-use Rattle.dd_layout.specs.Records.{record_item}
-use Rattle.dd_layout.specs.Cells.{IsShortElement}
-use Rattle.dd_layout.proofs.Valid.{record_valid}
+use Rattle.dd_records.specs.Records.{record_item}
+use Rattle.dd_records.specs.Cells.{IsShortElement}
+use Rattle.dd_records.proofs.Valid.{record_valid}
 use Rattle.dd_set.specs.Single.{item_text}
 use Rattle.dd_encoding.specs.Spelling.{max_levels}
 use Rattle.dd_stream.proofs.Going.{first_fails, then_sends, sends_same}

@@ -2,7 +2,7 @@ use Rattle.std.proofs.Common.{◌≡◌, ◌∷◌, arith, length, refl, true}
 use Rattle.std.proofs.lemmas.Result.{err_from_is_err_and}
 use Rattle.dd_catalogue.proofs.FirstAndRest.{first_and_rest, rest_of}
 use Rattle.dd_stream.proofs.Going.{goes_on_fails, goes_on_piece}
-use Rattle.dd_layout.specs.Records.{IsRecord}
+use Rattle.dd_records.specs.Records.{IsRecord}
 use Rattle.dd_dir.specs.Directories.{elements_for}
 use Rattle.dd_dir.specs.Keyed.{IsKeyed}
 use Rattle.dd_dir.proofs.MeasuredRecords.{made_hold, rest_measured, rest_sound, rows_hold, size_of_first}

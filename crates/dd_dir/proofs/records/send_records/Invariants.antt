@@ -4,7 +4,7 @@ use Rattle.std.specs.List.{AllByRecursion}
 use Rattle.dd_stream.proofs.Going.{GoesOn}
 use Rattle.dd_stream.specs.Sends.{counts_of}
 use Rattle.dd_layout.specs.Layouts.{IsSound}
-use Rattle.dd_layout.specs.Records.{IsRecord}
+use Rattle.dd_records.specs.Records.{IsRecord}
 use Rattle.dd_dir.specs.Directories.{AreMeasured, elements_for}
 use Rattle.dd_dir.specs.Keyed.{IsKeyed}
 use Rattle.dd_dir.proofs.RecordTexts.{records_text}

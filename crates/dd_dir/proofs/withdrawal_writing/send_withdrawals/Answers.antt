@@ -1,7 +1,7 @@
 use Rattle.std.proofs.Common.{◌<◌, ◌^◌, length, rules, arith}
 use Rattle.std.proofs.lemmas.Result.{err_from_is_err_and}
 use Rattle.dd_stream.proofs.Going.{first_fails, then_sends, sends_same}
-use Rattle.dd_layout.specs.Cells.{cell_element}
+use Rattle.dd_records.specs.Cells.{cell_element}
 use Rattle.dd_dir.proofs.WithdrawalTexts.{creator_text, value_size, withdrawal_parts}
 use Rattle.dd_dir.proofs.withdrawal_writing.send_withdrawals.Goals as goal
 

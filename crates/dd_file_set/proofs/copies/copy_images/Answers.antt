@@ -2,7 +2,7 @@
 use Rattle.std.proofs.Common.{◌≡◌, Err, List, arith, rules, subst}
 use Rattle.dd_files.proofs.KeptFiles.{said_then}
 use Rattle.std.specs.Prelude.{zip}
-use Rattle.dd_layout.specs.declared.record.PlanRecord.{PlanRecord}
+use Rattle.dd_records.specs.declared.record.PlanRecord.{PlanRecord}
 use Rattle.dd_file_set.proofs.ChangedFiles.{changed_by, unfit_pick}
 use Rattle.dd_file_set.proofs.ImagesMade.{named, so_far_more}
 use Rattle.dd_file_set.specs.Changed.{HasUnfitFirst, HasUnfitPick}

@@ -4,7 +4,7 @@ use Rattle.dd_elem.specs.FileId.{max_rank}
 use Rattle.dd_layout.specs.Layouts.{IsSound}
 use Rattle.dd_layout.specs.Limits.{Limits}
 use Rattle.dd_layout.specs.Plans.{tree}
-use Rattle.dd_layout.specs.Records.{IsFileOf}
+use Rattle.dd_records.specs.Records.{IsFileOf}
 use Rattle.dd_layout.specs.Refusal.{crowded}
 use Rattle.dd_layout.specs.Stages.{level_in}
 use Rattle.dd_layout.proofs.Excesses.{no_excess, too_large, too_many}

@@ -1,5 +1,5 @@
 use Rattle.std.proofs.Common.{rules, ◌≡◌, ◌+◌, refl, arith}
-use Rattle.dd_layout.specs.Directory.{first_offset}
+use Rattle.dd_records.specs.Directory.{first_offset}
 use Rattle.dd_layout.proofs.OffsetPass.{end_of, weight}
 use Rattle.dd_layout.proofs.OffsetsAlong.{of_turn, size_of_turn, end_within, end_known, offsets_are_known}
 use Rattle.dd_layout.proofs.PlaceTurns.{rows_more, end_more}

@@ -1,5 +1,5 @@
 use Rattle.std.proofs.Common.{◌≡◌, ◌≤◌}
-use Rattle.dd_layout.specs.Directory.{first_offset}
+use Rattle.dd_records.specs.Directory.{first_offset}
 use Rattle.dd_layout.proofs.OffsetPass.{end_of, placed_to, weight}
 use Rattle.dd_layout.proofs.offsets.set_offsets.Given as goal
 

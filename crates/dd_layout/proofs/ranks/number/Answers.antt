@@ -1,8 +1,8 @@
 use Rattle.std.proofs.Common.{◌≡◌, arith, ◌∙◌}
 use Rattle.std.proofs.lemmas.List.Elements.{All-same}
 use Rattle.dd_layout.specs.Numbering.{counters_of}
-use Rattle.dd_layout.specs.Records.{IsFileOf}
-use Rattle.dd_layout.specs.declared.record.PlanRecord.{PlanRecord}
+use Rattle.dd_records.specs.Records.{IsFileOf}
+use Rattle.dd_records.specs.declared.record.PlanRecord.{PlanRecord}
 use Rattle.dd_layout.proofs.NumberPass.{numbered_from}
 use Rattle.dd_layout.proofs.Ranked.{files_numbered, numbered_all, pass_numbered}
 use Rattle.dd_layout.proofs.ranks.number.Goals as goal

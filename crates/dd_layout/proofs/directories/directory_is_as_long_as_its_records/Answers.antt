@@ -1,5 +1,0 @@
-use Rattle.dd_layout.proofs.DirectoryElements.{length_is_of_records}
-use Rattle.dd_layout.proofs.directories.directory_is_as_long_as_its_records.Goals as goal
-
-pub returns : goal.returns
-returns c = length_is_of_records
