@@ -8,10 +8,10 @@ use Rattle.std.proofs.Common.{Result, Ok, Err}
 use Rattle.std.specs.Prelude.{◌≢◌, OnOk}
 use Rattle.std.specs.Borrow.{Bor}
 use Rattle.std.specs.List.{concat, flat_map}
-use Rattle.dd_dir.specs.declared.forest.Tree.{Tree, out-Tree, the_lemmas}
-use Rattle.dd_dir.specs.ForestViews.{tree_view, trees_view}
-use Rattle.dd_dir.specs.Saying.{key_of}
-use Rattle.dd_dir.specs.Trees.{Node}
+use Rattle.dd_walk.specs.declared.forest.Tree.{Tree, out-Tree, the_lemmas}
+use Rattle.dd_walk.specs.ForestViews.{tree_view, trees_view}
+use Rattle.dd_walk.specs.Saying.{key_of}
+use Rattle.dd_walk.specs.Trees.{Node}
 use Rattle.dd_calls.specs.declared.table.Row.{Row}
 use Rattle.dd_calls.specs.declared.table.Table.{Table}
 use Rattle.dd_calls.specs.declared.texts.Texts.{Texts}

@@ -4,9 +4,9 @@ use Rattle.std.proofs.Common.{sym, ap, append_assoc, append-nil, rules}
 use Rattle.std.proofs.lemmas.Grind.{flat_map-append}
 use Rattle.std.proofs.lemmas.List.{map-append, take_all, take_more}
 use Rattle.std.specs.List.{flat_map}
-use Rattle.dd_dir.specs.declared.forest.Tree.{Tree, out-Tree, the_lemmas}
-use Rattle.dd_dir.specs.ForestViews.{tree_view, trees_view}
-use Rattle.dd_dir.specs.Trees.{Node}
+use Rattle.dd_walk.specs.declared.forest.Tree.{Tree, out-Tree, the_lemmas}
+use Rattle.dd_walk.specs.ForestViews.{tree_view, trees_view}
+use Rattle.dd_walk.specs.Trees.{Node}
 use Rattle.dd_report.specs.Agreements.{Standing, branch_standings, standing_below, standings_below}
 use Rattle.dd_calls.specs.declared.standing.Standing.{Standing as StandingValue}
 use Rattle.dd_calls.specs.Standings.{Inherits, Seen, seen_by, standing_view}

@@ -1,9 +1,9 @@
 -- What a call answers, by what its bytes say.
 use Rattle.std.specs.Prelude.{◌≡◌, ℕ, ◌<◌, ◌≤◌, ◌⊎◌, List, length}
-use Rattle.dd_dir.specs.declared.fault.DirFault.{DirFault}
-use Rattle.dd_dir.specs.ReadAnswers.{SaysMemory}
-use Rattle.dd_dir.specs.Reading.{IsWalk, Refuses}
-use Rattle.dd_dir.specs.Trees.{Walk}
+use Rattle.dd_walk.specs.declared.fault.DirFault.{DirFault}
+use Rattle.dd_walk.specs.ReadAnswers.{SaysMemory}
+use Rattle.dd_walk.specs.Reading.{IsWalk, Refuses}
+use Rattle.dd_walk.specs.Trees.{Walk}
 use Rattle.dd_report.specs.Listing.{listing_text}
 use Rattle.dd_calls.specs.declared.answer.Answer.{Answer}
 use Rattle.dd_calls.specs.Faults.{fault_of, refusal_of}

@@ -1,7 +1,7 @@
 -- The values of a directory beside its records (PS3.3 sections F.3.2.1 and C.12.1).
 use Rattle.std.specs.Prelude.{◌≡◌, ℕ, ◌<◌, ◌≤◌, ◌⊎◌, List, [], ◌∷◌, length, unwrap_or}
-use Rattle.dd_dir.specs.Reading.{IsWalk}
-use Rattle.dd_dir.specs.Trees.{Walk}
+use Rattle.dd_walk.specs.Reading.{IsWalk}
+use Rattle.dd_walk.specs.Trees.{Walk}
 use Rattle.dd_calls.specs.declared.answer.Answer.{Answer}
 use Rattle.dd_calls.specs.declared.texts.Texts.{Texts}
 use Rattle.dd_calls.specs.Sizes.{over, sized}

@@ -5,8 +5,8 @@ use Rattle.dd_grammar.specs.declared.fault.SetFault.{SetFault}
 use Rattle.dd_grammar.specs.declared.fault.SetFault.TheVariants as set_faults
 use Rattle.dd_part10.specs.declared.fault.FileFault.{FileFault}
 use Rattle.dd_part10.specs.declared.fault.FileFault.TheVariants as file_faults
-use Rattle.dd_dir.specs.declared.fault.DirFault.{DirFault}
-use Rattle.dd_dir.specs.declared.fault.DirFault.TheVariants as faults
+use Rattle.dd_walk.specs.declared.fault.DirFault.{DirFault}
+use Rattle.dd_walk.specs.declared.fault.DirFault.TheVariants as faults
 use Rattle.dd_calls.specs.declared.answer.Answer.{Answer}
 
 -- the number of the fault of a data set

@@ -5,9 +5,9 @@ use Rattle.std.specs.Option.{option_or}
 use Rattle.dd_elem.specs.FileIdForm.{is_file_id_form}
 use Rattle.dd_elem.specs.Tag.{number_of}
 use Rattle.dd_version.specs.Fitting.{is_empty}
-use Rattle.dd_dir.specs.Saying.{digest_in}
-use Rattle.dd_dir.specs.Reading.{IsWalk}
-use Rattle.dd_dir.specs.Trees.{Node, Walk}
+use Rattle.dd_walk.specs.Saying.{digest_in}
+use Rattle.dd_walk.specs.Reading.{IsWalk}
+use Rattle.dd_walk.specs.Trees.{Node, Walk}
 use Rattle.dd_part10.specs.declared.fault.FileFault.{FileFault}
 use Rattle.dd_part10.specs.Reading.{FileParts, file_in as parts_in}
 use Rattle.dd_report.specs.Agreements.{Standing, found_in, is_image, mislabelled, standings_below}

@@ -3,7 +3,7 @@ use Rattle.std.specs.Prelude.{◌≡◌, Result, Ok, Err}
 use Rattle.std.specs.List.{AllByRecursion}
 use Rattle.dd_part10.specs.declared.fault.FileFault.{FileFault}
 use Rattle.dd_part10.specs.Reading.{FileParts}
-use Rattle.dd_dir.specs.Saying.{key_of}
+use Rattle.dd_walk.specs.Saying.{key_of}
 use Rattle.dd_report.specs.Agreements.{compared_tags}
 
 -- Reading both gives the same values at all tags that are compared: the three UIDs of group 0002, and these of the data

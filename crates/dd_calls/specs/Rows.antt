@@ -6,10 +6,10 @@ use Rattle.std.specs.Str.{bytes_eq}
 use Rattle.dd_elem.specs.declared.tag.Tag.{Tag}
 use Rattle.dd_records.specs.declared.level.Level.TheVariants.{Patient, Study, Series, Image}
 use Rattle.dd_records.specs.Records.{kind_of}
-use Rattle.dd_dir.specs.ForestViews.{Branch}
-use Rattle.dd_dir.specs.Reading.{IsWalk}
-use Rattle.dd_dir.specs.Saying.{key_of}
-use Rattle.dd_dir.specs.Trees.{Node, Trees, Walk, no_trees, tree}
+use Rattle.dd_walk.specs.ForestViews.{Branch}
+use Rattle.dd_walk.specs.Reading.{IsWalk}
+use Rattle.dd_walk.specs.Saying.{key_of}
+use Rattle.dd_walk.specs.Trees.{Node, Trees, Walk, no_trees, tree}
 use Rattle.dd_calls.specs.declared.answer.Answer.{Answer}
 use Rattle.dd_calls.specs.declared.table.Row.{Row}
 use Rattle.dd_calls.specs.declared.table.Table.{Table}

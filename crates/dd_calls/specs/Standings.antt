@@ -1,8 +1,8 @@
 -- A record with what it inherits, as the code holds it.
 use Rattle.std.specs.Prelude.{◌≡◌, ℕ, List, ◌∷◌}
 use Rattle.dd_records.specs.ElementForms.{tag}
-use Rattle.dd_dir.specs.ForestViews.{tree_view}
-use Rattle.dd_dir.specs.Trees.{Node}
+use Rattle.dd_walk.specs.ForestViews.{tree_view}
+use Rattle.dd_walk.specs.Trees.{Node}
 use Rattle.dd_report.specs.Agreements.{Standing, nearest}
 use Rattle.dd_calls.specs.declared.standing.Inherited.{Inherited}
 use Rattle.dd_calls.specs.declared.standing.Standing.{Standing as StandingValue}

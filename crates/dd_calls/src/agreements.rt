@@ -7,19 +7,19 @@ ghost use Rattle.dd_part10.specs.Faults.{SaysMemory};
 ghost use Rattle.dd_part10.specs.Reading.{file_in};
 ghost use Rattle.dd_part10.specs.Views.{file_view};
 ghost use Rattle.dd_records.specs.ElementForms.{tag};
-ghost use Rattle.dd_dir.specs.Saying.{key_of};
+ghost use Rattle.dd_walk.specs.Saying.{key_of};
 ghost use Rattle.dd_report.specs.Agreements.{agree, agreement, agreements, first_wrong, mislabelled, patient_id};
 ghost use Rattle.dd_report.specs.Agreements.{Standing as Record, syntax_agreement};
 ghost use Rattle.dd_calls.specs.Standings.{seen_by, standing_view};
 
 use crate::standing::Standing;
 use crate::values::value_in;
-use dd_dir::digest_in;
 use dd_elem::{Memory, Tag, Uid, tags};
 use dd_part10::{self, DicomFile, FileFault, parse_file};
 use dd_records::table::{CLASS, INSTANCE, TRANSFER};
 use dd_report::Finding;
 use dd_set::DataSet;
+use dd_walk::digest_in;
 use std::alloc::Global;
 
 /// Media Storage SOP Class UID.

@@ -5,9 +5,9 @@ ghost use Rattle.dd_calls.specs.Faults.{cause_of, fault_of, file_cause, file_tag
 ghost use Rattle.dd_calls.specs.Faults.{set_cause, tag_of, within_of};
 ghost use Rattle.dd_calls.specs.Sizes.{by_number, sized};
 
-use dd_dir::DirFault;
 use dd_part10::FileFault;
 use dd_set::SetFault;
+use dd_walk::DirFault;
 
 /// The status of a call that gave its answer.
 pub const DONE: u32 = 0;

@@ -1,8 +1,8 @@
 //! The values of a directory of any producer beside its records.
 
 ghost use Rattle.std.specs.Prelude.{◌≡◌, ◌≢◌, ◌⊎◌, ◌≤◌, ◌<◌, ◌∷◌, [], IfOk, IfErr, length, option_map, unwrap_or};
-ghost use Rattle.dd_dir.specs.ReadAnswers.{SaysMemory};
-ghost use Rattle.dd_dir.specs.Reading.{Refuses};
+ghost use Rattle.dd_walk.specs.ReadAnswers.{SaysMemory};
+ghost use Rattle.dd_walk.specs.Reading.{Refuses};
 ghost use Rattle.dd_calls.specs.Answers.{IsRefused};
 ghost use Rattle.dd_calls.specs.Beside.{IsGivenBeside, IsWiderBeside, SaysBeside};
 ghost use Rattle.dd_calls.specs.Sizes.{over, sized};
@@ -10,7 +10,7 @@ ghost use Rattle.dd_calls.specs.Texts.{AreTexts};
 
 use crate::answer::{Answer, DONE, ROOM};
 use crate::texts::Texts;
-use dd_dir::{DirFault, read_directory};
+use dd_walk::{DirFault, read_directory};
 use std::alloc::{AllocError, Global};
 
 /// Holds the values of a directory beside its records.

@@ -2,8 +2,8 @@
 
 ghost use Rattle.std.specs.Prelude.{◌≡◌, ◌≢◌, ◌⊎◌, ◌<◌, ◌&&◌, IfErr, IfOk, IfSome, List, None, Some, length, map};
 ghost use Rattle.std.specs.Prelude.{if◌then◌else◌, nat_le, option_map, slice_get, slice_range};
-ghost use Rattle.dd_dir.specs.ReadAnswers.{SaysMemory};
-ghost use Rattle.dd_dir.specs.Reading.{Refuses};
+ghost use Rattle.dd_walk.specs.ReadAnswers.{SaysMemory};
+ghost use Rattle.dd_walk.specs.Reading.{Refuses};
 ghost use Rattle.dd_report.specs.Agreements.{Standing as Record};
 ghost use Rattle.dd_calls.specs.Answers.{IsRefused};
 ghost use Rattle.dd_calls.specs.Findings.{AreFound, FindingsGiven, IsAmiss, finding_row, found_there, rows_from};
@@ -15,9 +15,9 @@ use crate::finding_row::FindingRow;
 use crate::given_file::GivenFile;
 use crate::judging::judge;
 use crate::standing::{Standing, standings_of};
-use dd_dir::{DirFault, read_directory};
 use dd_elem::Memory;
 use dd_report::Comparison;
+use dd_walk::{DirFault, read_directory};
 use std::alloc::Global;
 
 /// Gives what a check by this comparison finds of each of these files to the front of `findings`, and answers 0. The

@@ -1,15 +1,15 @@
 //! The records of a directory of any producer, as rows of a table.
 
 ghost use Rattle.std.specs.Prelude.{◌≡◌, ◌≢◌, ◌⊎◌, ◌≤◌, ◌<◌, length, IfOk, IfErr};
-ghost use Rattle.dd_dir.specs.ReadAnswers.{SaysMemory};
-ghost use Rattle.dd_dir.specs.Reading.{Refuses};
+ghost use Rattle.dd_walk.specs.ReadAnswers.{SaysMemory};
+ghost use Rattle.dd_walk.specs.Reading.{Refuses};
 ghost use Rattle.dd_calls.specs.Answers.{IsRefused};
 ghost use Rattle.dd_calls.specs.Rows.{IsTable, AreWider, AreGiven};
 ghost use Rattle.dd_calls.specs.Sizes.{over, sized};
 
 use crate::answer::{Answer, DONE, ROOM};
 use crate::table::{Row, Table, add_trees};
-use dd_dir::{DirFault, read_directory};
+use dd_walk::{DirFault, read_directory};
 use std::alloc::Global;
 
 /// Gives a row for each record of the directory in `bytes` (PS3.3 section F.3.2.2), depth first, to the front of

@@ -1,11 +1,11 @@
 //! Judges a file by its record, as a check does.
 
 ghost use Rattle.std.specs.Prelude.{◌≡◌, ◌==◌, IfOk, None, Some, if◌then◌else◌, length, option_map};
-ghost use Rattle.dd_dir.specs.ForestViews.{tree_view};
+ghost use Rattle.dd_walk.specs.ForestViews.{tree_view};
 ghost use Rattle.dd_part10.specs.Reading.{file_in};
 ghost use Rattle.dd_report.specs.Agreements.{Standing as Record, found_in, is_image};
 ghost use Rattle.dd_report.specs.Finding.{compared, without_digest};
-ghost use Rattle.dd_dir.specs.Saying.{digest_in};
+ghost use Rattle.dd_walk.specs.Saying.{digest_in};
 ghost use Rattle.dd_calls.specs.Findings.{finding_row, found_by_digest, found_by_head, found_by_keys, found_given};
 ghost use Rattle.dd_calls.specs.Findings.{unless_misnamed};
 ghost use Rattle.dd_calls.specs.Standings.{seen_by, standing_view};
@@ -14,11 +14,11 @@ use crate::agreements::mislabelled;
 use crate::finding_row::FindingRow;
 use crate::standing::Standing;
 use crate::values::value_in;
-use dd_dir::{Tree, digest_in};
 use dd_elem::{Memory, is_file_id};
 use dd_records::Level;
 use dd_records::table::FILE;
 use dd_report::{Comparison, Finding};
+use dd_walk::{Tree, digest_in};
 use sha2::{Digest, Sha256};
 use std::alloc::Global;
 

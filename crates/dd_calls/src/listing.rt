@@ -1,16 +1,16 @@
 //! The records of a directory of any producer, as lines.
 
 ghost use Rattle.std.specs.Prelude.{◌≡◌, ◌≢◌, ◌⊎◌, ◌≤◌, ◌<◌, length, IfOk, IfErr};
-ghost use Rattle.dd_dir.specs.ReadAnswers.{SaysMemory};
-ghost use Rattle.dd_dir.specs.Reading.{Refuses};
+ghost use Rattle.dd_walk.specs.ReadAnswers.{SaysMemory};
+ghost use Rattle.dd_walk.specs.Reading.{Refuses};
 ghost use Rattle.dd_calls.specs.Answers.{IsListing, IsListed, IsLonger, IsRefused};
 ghost use Rattle.dd_calls.specs.Sizes.{over, sized};
 
 use crate::answer::{Answer, DONE, ROOM};
 use crate::buffer::Buffer;
-use dd_dir::{DirFault, read_directory};
 use dd_json::Style;
 use dd_report::{Form, list_records};
+use dd_walk::{DirFault, read_directory};
 use std::alloc::Global;
 
 /// Lists the records of the directory in `bytes`, as `dicomdir list` does (PS3.3 section F.3), to the front of `out`,

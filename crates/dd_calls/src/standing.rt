@@ -2,14 +2,14 @@
 
 ghost use Rattle.std.specs.Prelude.{◌≡◌, ◌++◌, ◌∷◌, [], List, OnOk, IfOk, map};
 ghost use Rattle.dd_records.specs.ElementForms.{tag};
-ghost use Rattle.dd_dir.specs.ForestViews.{tree_view, trees_view};
-ghost use Rattle.dd_dir.specs.Trees.{Node};
+ghost use Rattle.dd_walk.specs.ForestViews.{tree_view, trees_view};
+ghost use Rattle.dd_walk.specs.Trees.{Node};
 ghost use Rattle.dd_report.specs.Agreements.{branch_standings, nearest, standings_below};
 ghost use Rattle.dd_calls.specs.Standings.{Inherits, seen_by, standing_view};
 
 use crate::values::value_in;
-use dd_dir::Tree;
 use dd_elem::{Tag, tags};
+use dd_walk::Tree;
 use std::alloc::{AllocError, Global};
 
 /// The values in a record and those above it: each as the nearest record has it that has the element, else no bytes.

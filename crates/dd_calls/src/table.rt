@@ -1,16 +1,16 @@
 //! Records as rows of a table, and their values as texts in a row.
 
 ghost use Rattle.std.specs.Prelude.{◌≡◌, ◌∷◌, [], OnOk};
-ghost use Rattle.dd_dir.specs.ForestViews.{tree_view, trees_view};
-ghost use Rattle.dd_dir.specs.Saying.{key_of};
+ghost use Rattle.dd_walk.specs.ForestViews.{tree_view, trees_view};
+ghost use Rattle.dd_walk.specs.Saying.{key_of};
 ghost use Rattle.dd_calls.specs.Rows.{Adds, AddsRows, branch_rows, kind_number, row_view, rows_of, tag_of};
 ghost use Rattle.dd_calls.specs.Rows.{values_at};
 
 use crate::texts::Texts;
 use crate::values::value_in;
-use dd_dir::Tree;
 use dd_elem::Tag;
 use dd_records::Level;
+use dd_walk::Tree;
 use std::alloc::{AllocError, Global};
 
 /// A record of a directory.

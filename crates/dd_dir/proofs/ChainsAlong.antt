@@ -12,11 +12,11 @@ use Rattle.dd_records.specs.Records.{kind_of}
 use Rattle.dd_layout.proofs.Blocks.{AllTails}
 use Rattle.dd_layout.proofs.HasLevel.{HasLevel}
 use Rattle.dd_layout.proofs.LinksAlong.{no_fifth}
-use Rattle.dd_dir.specs.Saying.{Links, links_in}
-use Rattle.dd_dir.specs.Trees.{Node, Trees, last_offset_or, no_trees, offsets}
-use Rattle.dd_dir.specs.Trees as trees
+use Rattle.dd_walk.specs.Saying.{Links, links_in}
+use Rattle.dd_walk.specs.Trees.{Node, Trees, last_offset_or, no_trees, offsets}
+use Rattle.dd_walk.specs.Trees as trees
 use Rattle.dd_dir.specs.Visits.{Visit, own_key, visits_below}
-use Rattle.dd_dir.specs.Walks.{IsChain, node_of}
+use Rattle.dd_walk.specs.Walks.{IsChain, node_of}
 use Rattle.dd_dir.proofs.GrownTrees.{Grown, grown, grown_from}
 use Rattle.dd_dir.proofs.VisitsAlong.{at_by}
 

@@ -27,8 +27,8 @@ use Rattle.dd_dir.specs.Own.{unless}
 use Rattle.dd_dir.specs.Own.{lacks_digest}
 use Rattle.dd_dir.specs.OwnVersions.{version_of}
 use Rattle.dd_dir.specs.OwnViews.{IsListed, Passes}
-use Rattle.dd_dir.specs.Saying.{key_of}
-use Rattle.dd_dir.specs.Trees.{Node, Trees, no_trees, tree}
+use Rattle.dd_walk.specs.Saying.{key_of}
+use Rattle.dd_walk.specs.Trees.{Node, Trees, no_trees, tree}
 
 -- ---- the rows of a table
 

@@ -5,7 +5,7 @@ use Rattle.dd_records.specs.declared.level.Level.{Level}
 use Rattle.dd_records.specs.declared.level.Level.TheVariants.{Patient, Study, Series, Image}
 use Rattle.dd_layout.specs.Paths.{Path}
 use Rattle.dd_layout.specs.Plans.{level_of}
-use Rattle.dd_dir.specs.Trees.{Node, Trees, no_trees, tree}
+use Rattle.dd_walk.specs.Trees.{Node, Trees, no_trees, tree}
 
 -- the trees of each level that stand first, if none above comes before
 pub record Grown : Type 0 where

@@ -9,7 +9,7 @@ use Rattle.dd_layout.proofs.Counts.{Linked}
 use Rattle.dd_layout.proofs.HasLevel.{HasLevel}
 use Rattle.dd_dir.specs.declared.own_fault.OwnFault.{OwnFault}
 use Rattle.dd_dir.specs.Own.{Listed, fault_at, followed, in_patient, in_series, in_study, listed_in, root, unless}
-use Rattle.dd_dir.specs.Trees.{Node, tree}
+use Rattle.dd_walk.specs.Trees.{Node, tree}
 use Rattle.dd_dir.proofs.GrownTrees.{Grown, grown, grown_from}
 use Rattle.dd_dir.proofs.ListedImages.{followed_assoc}
 use Rattle.dd_dir.proofs.VisitsAlong.{front_is}

@@ -4,7 +4,7 @@ use Rattle.dd_dir.specs.declared.listed_images.Listed.{Listed as ListedValue}
 use Rattle.dd_dir.specs.Own.{Above, Listed, ListsFirst, below, fault_at, level_in, listed_at, listed_in, listed_with}
 use Rattle.dd_dir.specs.Own.{own, root, unless}
 use Rattle.dd_dir.specs.OwnViews.{listed_view}
-use Rattle.dd_dir.specs.Trees.{Trees, Walk, no_trees, tree}
+use Rattle.dd_walk.specs.Trees.{Trees, Walk, no_trees, tree}
 use Rattle.dd_dir.proofs.CheckedRecords.{are_followed, no_fault, nothing_listed}
 
 none_or_some : (images : List Listed) → (images ≡ []) ⊎ (images ≢ [])

@@ -7,18 +7,18 @@ use Rattle.std.proofs.lemmas.List.{at_drop_more, at_drop_all, get_or-map, length
 use Rattle.std.proofs.lemmas.List.Elements.{All-get_or}
 use Rattle.dd_encoding.specs.Elements.{Elements}
 use Rattle.dd_set.specs.Views.{set_view}
-use Rattle.dd_dir.specs.declared.forest.Tree.{Tree, out-Tree, the_lemmas}
+use Rattle.dd_walk.specs.declared.forest.Tree.{Tree, out-Tree, the_lemmas}
 use Rattle.dd_dir.specs.declared.listed_images.Listed.{Listed as ListedValue}
 use Rattle.dd_dir.specs.declared.own_fault.OwnFault.{OwnFault}
 use Rattle.dd_dir.specs.declared.own_fault.OwnFault.TheVariants.{BadWithdrawal, ForeignRecord, Memory, NoDigest}
 use Rattle.dd_dir.specs.declared.own_fault.OwnFault.TheVariants.{RecordKey}
-use Rattle.dd_dir.specs.ForestViews.{tree_view, trees_view}
+use Rattle.dd_walk.specs.ForestViews.{tree_view, trees_view}
 use Rattle.dd_records.specs.declared.level.Level.{Level}
 use Rattle.dd_records.specs.declared.table.Row.{Row}
 use Rattle.dd_records.specs.Tables.{table_of}
 use Rattle.dd_dir.specs.Own.{Above, Listed, ListsFirst, below, fault_at, followed, is_bad, is_own, lacks_digest}
 use Rattle.dd_dir.specs.Own.{level_in, listed_at, listed_in, unless}
-use Rattle.dd_dir.specs.Trees.{Node, Trees}
+use Rattle.dd_walk.specs.Trees.{Node, Trees}
 use Rattle.dd_dir.specs.OwnViews.{Adds, IsListed, ListsOneFirst, listed_of, listed_view}
 
 -- images, or a fault

@@ -13,7 +13,7 @@ use Rattle.dd_dir.specs.Own.{Above, Listed, below, fault_at, followed, is_bad, i
 use Rattle.dd_dir.specs.Own.{level_in, listed_at, listed_in, root, unless}
 use Rattle.dd_dir.specs.OwnVersions.{AnswersWalk, ListsSome}
 use Rattle.dd_dir.specs.OwnViews.{AnswersRecords, listed_view}
-use Rattle.dd_dir.specs.Trees.{Node, Trees, Walk, no_trees, tree}
+use Rattle.dd_walk.specs.Trees.{Node, Trees, Walk, no_trees, tree}
 use Rattle.dd_dir.specs.Withdrawn.{AreRisingUids, withdrawn_of}
 
 -- ---- the checks of records

@@ -24,7 +24,7 @@ use Rattle.dd_dir.specs.Keyed.{IsSent}
 use Rattle.dd_dir.specs.Own.{Listed}
 use Rattle.dd_dir.specs.OwnVersions.{Place, place_of, version_of}
 use Rattle.dd_dir.specs.SaysItself.{SaysItself, is_of_image, place_in}
-use Rattle.dd_dir.specs.Trees.{Node}
+use Rattle.dd_walk.specs.Trees.{Node}
 use Rattle.dd_dir.specs.Visits.{node_at}
 use Rattle.dd_dir.specs.Withdrawn.{AreRisingUids}
 use Rattle.dd_dir.proofs.ListedAlong.{image_by, listed_along, rows_images}
@@ -34,7 +34,7 @@ use Rattle.dd_dir.proofs.RowsSay.{series_row, study_row}
 use Rattle.dd_dir.proofs.SameTuples.{AreAlike, harmony_is_alike}
 use Rattle.dd_dir.proofs.TreeWalks.{tree_is_walked, tree_linked, tree_walk}
 use Rattle.dd_dir.proofs.VisitsAlong.{front_is}
-use Rattle.dd_dir.proofs.WalkFiles.{one_walk}
+use Rattle.dd_walk.proofs.WalkFiles.{one_walk}
 use Rattle.dd_dir.proofs.WithdrawnRead.{withdrawn_read}
 
 -- ---- one image

@@ -11,7 +11,7 @@ use Rattle.dd_layout.specs.Paths.{Path, leads_to}
 use Rattle.dd_layout.specs.Plans.{least_below, level_of, path_of, record_at}
 use Rattle.dd_layout.proofs.HasLevel.{HasLevel}
 use Rattle.dd_dir.specs.Directories.{elements_by}
-use Rattle.dd_dir.specs.Saying.{key_of}
+use Rattle.dd_walk.specs.Saying.{key_of}
 use Rattle.dd_dir.specs.Visits.{node_at}
 use Rattle.dd_dir.proofs.KeyedRecords.{key_by}
 use Rattle.dd_dir.proofs.RecordsSay.{image_is, patient_is, series_is, study_is}

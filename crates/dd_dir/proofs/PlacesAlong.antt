@@ -35,12 +35,12 @@ use Rattle.dd_layout.proofs.Neighbourhood.{rows_are_known}
 use Rattle.dd_records.proofs.DirectoryElements.{directory_length}
 use Rattle.dd_layout.proofs.OffsetPass.{end_at}
 use Rattle.dd_dir.specs.Directories.{directory_set, elements_for, first_root, last_root}
-use Rattle.dd_dir.specs.Reading.{stands_in}
-use Rattle.dd_dir.specs.Saying.{sets_of}
+use Rattle.dd_walk.specs.Reading.{stands_in}
+use Rattle.dd_walk.specs.Saying.{sets_of}
 use Rattle.dd_dir.proofs.DirectoryTexts.{one_size}
 use Rattle.dd_dir.proofs.RowTexts.{text-one}
-use Rattle.dd_dir.specs.Pending.{Rises}
-use Rattle.dd_dir.proofs.WalkPlaces.{places_rise, rises_lower}
+use Rattle.dd_walk.specs.Pending.{Rises}
+use Rattle.dd_walk.proofs.WalkPlaces.{places_rise, rises_lower}
 
 -- ---- the items of records
 

@@ -16,7 +16,7 @@ use Rattle.dd_dir.proofs.EachOnce.{tree_once}
 use Rattle.dd_dir.proofs.OwnDirectories.{directory_says}
 use Rattle.dd_dir.proofs.SetIds.{id_said}
 use Rattle.dd_dir.proofs.TreeWalks.{tree_is_walked, tree_visits, tree_walk}
-use Rattle.dd_dir.proofs.WalkFiles.{one_walk}
+use Rattle.dd_walk.proofs.WalkFiles.{one_walk}
 
 -- the paths that are visited
 visited_paths : (label : Label) (versions : List Parts) (rows : List Path)

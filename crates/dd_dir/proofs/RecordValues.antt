@@ -18,7 +18,7 @@ use Rattle.dd_records.specs.ElementForms.{tag, padded, text_element, uid_element
 use Rattle.dd_records.specs.Records.{kind_of, link_elements, record_elements}
 use Rattle.dd_part10.proofs.HeadLaw.{clean_uid}
 use Rattle.dd_encoding.specs.Elements.{Elements, elements_of}
-use Rattle.dd_dir.specs.Saying.{digest_in, sized}
+use Rattle.dd_walk.specs.Saying.{digest_in, sized}
 use Rattle.dd_version.specs.WellFormed.{IsWellFormedImage, IsWellFormedPatient, IsWellFormedSeries, IsWellFormedStudy}
 use Rattle.dd_dir.proofs.FileTexts.{text_clean}
 use Rattle.dd_dir.proofs.RecordsSay.{clean_of-padded}

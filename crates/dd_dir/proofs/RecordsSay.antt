@@ -12,7 +12,7 @@ use Rattle.dd_records.specs.declared.level.Level.{Level}
 use Rattle.dd_records.specs.declared.level.Level.TheVariants.{Patient, Study, Series, Image}
 use Rattle.dd_records.specs.ElementForms.{tag, padded, text_element, uid_element}
 use Rattle.dd_records.specs.Records.{kind_of, link_elements, record_elements}
-use Rattle.dd_dir.specs.Saying.{key_of, links_by, links_in}
+use Rattle.dd_walk.specs.Saying.{key_of, links_by, links_in}
 
 -- ---- links, flag and type
 

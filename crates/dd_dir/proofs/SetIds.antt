@@ -9,7 +9,7 @@ use Rattle.dd_elem.proofs.Cleaning.{clean_of-unpadded}
 use Rattle.dd_version.specs.declared.parts.Parts.{Parts}
 use Rattle.dd_records.specs.declared.label.Label.{Label}
 use Rattle.dd_dir.specs.Directories.{directory_set}
-use Rattle.dd_dir.specs.Saying.{id_in}
+use Rattle.dd_walk.specs.Saying.{id_in}
 use Rattle.dd_dir.proofs.RecordsSay.{clean_of-padded}
 
 -- a character of an ID is neither NUL nor a space

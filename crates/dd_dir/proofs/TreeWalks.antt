@@ -28,12 +28,12 @@ use Rattle.dd_layout.proofs.Neighbourhood.{above_root, rises, rows_are_known, tr
 use Rattle.dd_dir.specs.Directories.{directory_of, directory_set, elements_by, elements_for, first_root}
 use Rattle.dd_dir.specs.Directories.{last_root}
 use Rattle.dd_dir.specs.Keyed.{IsKeyed, IsKeyedBy, IsSent}
-use Rattle.dd_dir.specs.Reading.{Contents, IsDirectoryFile, IsWalk, contents_by, contents_in}
-use Rattle.dd_dir.specs.Reading.{count_unseen, stands_of}
-use Rattle.dd_dir.specs.Saying.{Links, beside_in, links_in}
-use Rattle.dd_dir.specs.Trees.{Walk, offsets}
+use Rattle.dd_walk.specs.Reading.{Contents, IsDirectoryFile, IsWalk, contents_by, contents_in}
+use Rattle.dd_walk.specs.Reading.{count_unseen, stands_of}
+use Rattle.dd_walk.specs.Saying.{Links, beside_in, links_in}
+use Rattle.dd_walk.specs.Trees.{Walk, offsets}
 use Rattle.dd_dir.specs.Visits.{Visit, node_at, or_root, visit_at, visits_of}
-use Rattle.dd_dir.specs.Walks.{AreApart, IsChain, Seen, nothing, with, with_all}
+use Rattle.dd_walk.specs.Walks.{AreApart, IsChain, Seen, nothing, with, with_all}
 use Rattle.dd_dir.proofs.ChainsAlong.{SaysAlong, chains_along, first_along, last_along, links_along, visits_places}
 use Rattle.dd_dir.proofs.GrownTrees.{grown}
 use Rattle.dd_dir.proofs.KeyedRecords.{clean_key}
@@ -41,7 +41,7 @@ use Rattle.dd_dir.proofs.OwnKeys.{IsOfVersion, least_leads, own_is}
 use Rattle.dd_dir.proofs.PlacesAlong.{at_most, end_small, offsets_rise, places_are, sets_are, stands_found}
 use Rattle.dd_dir.proofs.RecordsSay.{record_says}
 use Rattle.dd_dir.proofs.VisitsAlong.{IsOwn, at_by, visit_by, visits_along}
-use Rattle.dd_dir.specs.Pending.{Rises}
+use Rattle.dd_walk.specs.Pending.{Rises}
 
 -- ---- what a record says
 

@@ -11,7 +11,7 @@ use Rattle.dd_layout.specs.Paths.{Path, leads_to, parent_of}
 use Rattle.dd_layout.proofs.Blocks.{and_parts}
 use Rattle.dd_layout.proofs.Counts.{Linked}
 use Rattle.dd_layout.proofs.HasLevel.{HasLevel}
-use Rattle.dd_dir.specs.Trees.{Node}
+use Rattle.dd_walk.specs.Trees.{Node}
 use Rattle.dd_dir.specs.Visits.{Visit, own_key, or_root, visits_below}
 use Rattle.dd_dir.proofs.GrownTrees.{Grown, grown, grown_from}
 

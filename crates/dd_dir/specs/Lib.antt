@@ -1,16 +1,9 @@
 pub mod Deriving
 pub mod Directories
-pub mod ForestViews
 pub mod Keyed
 pub mod Own
 pub mod OwnVersions
 pub mod OwnViews
-pub mod ReadAnswers
-pub mod Reading
-pub mod Saying
 pub mod SaysItself
-pub mod Pending
-pub mod Trees
 pub mod Visits
-pub mod Walks
 pub mod Withdrawn

@@ -21,8 +21,8 @@ use Rattle.dd_version.specs.Syntaxes.{is_known_syntax}
 use Rattle.dd_encoding.specs.Elements.{Elements}
 use Rattle.dd_dir.specs.declared.own_fault.OwnFault.{OwnFault}
 use Rattle.dd_dir.specs.declared.own_fault.OwnFault.TheVariants.{NoDigest, ForeignRecord, RecordKey}
-use Rattle.dd_dir.specs.Saying.{digest_in}
-use Rattle.dd_dir.specs.Trees.{Node, Trees, no_trees, tree, Walk}
+use Rattle.dd_walk.specs.Saying.{digest_in}
+use Rattle.dd_walk.specs.Trees.{Node, Trees, no_trees, tree, Walk}
 
 -- ---- where a record stands
 

@@ -11,8 +11,8 @@ use Rattle.dd_dir.specs.declared.own.Place.{Place as PlaceValue}
 use Rattle.dd_dir.specs.declared.own_fault.OwnFault.{OwnFault}
 use Rattle.dd_dir.specs.declared.own_fault.OwnFault.TheVariants.{BadWithdrawal, Memory}
 use Rattle.dd_dir.specs.Own.{Listed, ListsFirst, own, root}
-use Rattle.dd_dir.specs.Saying.{digest_in, key_of}
-use Rattle.dd_dir.specs.Trees.{Walk}
+use Rattle.dd_walk.specs.Saying.{digest_in, key_of}
+use Rattle.dd_walk.specs.Trees.{Walk}
 use Rattle.dd_dir.specs.Withdrawn.{AreRisingUids, withdrawn_of}
 
 abbrev pub digest_of : Elements → List ℕ

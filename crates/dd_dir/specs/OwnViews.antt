@@ -9,12 +9,12 @@ use Rattle.dd_dir.specs.declared.listed_images.Above.{Above as AboveValue}
 use Rattle.dd_dir.specs.declared.listed_images.Above.TheVariants as values
 use Rattle.dd_dir.specs.declared.listed_images.Listed.{Listed as ListedValue}
 use Rattle.dd_dir.specs.declared.own_fault.OwnFault.{OwnFault}
-use Rattle.dd_dir.specs.ForestViews.{Branch}
+use Rattle.dd_walk.specs.ForestViews.{Branch}
 use Rattle.dd_dir.specs.Own.{Above, root, in_patient, in_study, in_series, in_image, Listed, ListsFirst, ListsWith}
 use Rattle.dd_dir.specs.Own.{below, is_bad, listed_in, listed_with, own}
 use Rattle.dd_dir.specs.OwnVersions.{Answers, ListsSome}
-use Rattle.dd_dir.specs.Saying.{digest_in}
-use Rattle.dd_dir.specs.Trees.{Walk}
+use Rattle.dd_walk.specs.Saying.{digest_in}
+use Rattle.dd_walk.specs.Trees.{Walk}
 
 abbrev pub above_view : AboveValue → Above
 above_view values.Root = root

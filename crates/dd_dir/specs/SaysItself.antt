@@ -10,8 +10,8 @@ use Rattle.dd_layout.specs.Plans.{file_of, path_of, tree}
 use Rattle.dd_records.specs.Records.{file_text}
 use Rattle.dd_dir.specs.Own.{Listed, own}
 use Rattle.dd_dir.specs.OwnVersions.{Place, place_of, version_of}
-use Rattle.dd_dir.specs.Reading.{IsWalk}
-use Rattle.dd_dir.specs.Trees.{Walk}
+use Rattle.dd_walk.specs.Reading.{IsWalk}
+use Rattle.dd_walk.specs.Trees.{Walk}
 use Rattle.dd_dir.specs.Withdrawn.{AreRisingUids, withdrawn_of}
 
 -- the path of an image: it has four parts

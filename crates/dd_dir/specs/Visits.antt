@@ -10,10 +10,10 @@ use Rattle.dd_layout.specs.Paths.{Path, is_path, leads_to, parent_of}
 use Rattle.dd_layout.specs.Plans.{at, at_or_none, level_of, path_of, record_at, tree}
 use Rattle.dd_records.specs.Records.{kind_of}
 use Rattle.dd_dir.specs.Directories.{elements_for}
-use Rattle.dd_dir.specs.Reading.{IsWalk}
-use Rattle.dd_dir.specs.Saying.{key_of}
-use Rattle.dd_dir.specs.Trees as trees
-use Rattle.dd_dir.specs.Trees.{Node, Trees, Walk, no_trees}
+use Rattle.dd_walk.specs.Reading.{IsWalk}
+use Rattle.dd_walk.specs.Saying.{key_of}
+use Rattle.dd_walk.specs.Trees as trees
+use Rattle.dd_walk.specs.Trees.{Node, Trees, Walk, no_trees}
 
 -- ---- what is visited
 

@@ -4,7 +4,7 @@ use Rattle.std.specs.List.{AllByRecursion, slice_split}
 use Rattle.dd_catalogue.specs.Best.{IsRising}
 use Rattle.dd_elem.specs.Ordered.{bytes_cmp}
 use Rattle.dd_elem.specs.Uid.{IsUid, is_uid}
-use Rattle.dd_dir.specs.Trees.{Walk}
+use Rattle.dd_walk.specs.Trees.{Walk}
 
 -- the pieces between `\` (92) of a value (PS3.5 section 6.4): one empty piece where it has no bytes
 abbrev pub pieces_of : List ℕ → List (List ℕ)

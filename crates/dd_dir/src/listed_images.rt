@@ -2,16 +2,16 @@
 
 ghost use Rattle.std.specs.Prelude.{◌≡◌, map};
 ghost use Rattle.dd_set.specs.Views.{set_view};
-ghost use Rattle.dd_dir.specs.ForestViews.{tree_view, trees_view};
+ghost use Rattle.dd_walk.specs.ForestViews.{tree_view, trees_view};
 ghost use Rattle.dd_dir.specs.Own.{ListsFirst, below, level_in, listed_at, listed_in};
 ghost use Rattle.dd_dir.specs.OwnViews.{Adds, ListsOneFirst, above_view, listed_of, listed_values, listed_view};
 
-use crate::forest::Tree;
 use crate::own_checks::fault_at;
 use crate::own_fault::OwnFault;
 use crate::record_keys::{PatientRecord, SeriesRecord, StudyRecord};
 use dd_records::Level;
 use dd_set::DataSet;
+use dd_walk::Tree;
 
 /// The records above a record: none at the root, and else one of each level down to an image.
 #[derive(Clone, Copy)]

@@ -2,13 +2,12 @@
 
 ghost use Rattle.std.specs.Prelude.{◌≡◌, ◌≢◌, ◌⊎◌, [], map, option_map, All, IfOk, OnErr};
 ghost use Rattle.dd_catalogue.specs.Contents.{held_of};
-ghost use Rattle.dd_dir.specs.ForestViews.{walk_view};
+ghost use Rattle.dd_walk.specs.ForestViews.{walk_view};
 ghost use Rattle.dd_dir.specs.OwnVersions.{AnswersWalk, ListsSome, NamesSome, Tells};
 ghost use Rattle.dd_dir.specs.OwnVersions.{file_of, place_of, place_view, version_of};
 ghost use Rattle.dd_dir.specs.OwnViews.{AnswersRecords, IsListed, listed_view};
 ghost use Rattle.dd_dir.specs.Withdrawn.{AreRisingUids, pieces_in, withdrawn_of};
 
-use crate::forest::Forest;
 use crate::listed_images::{Above, Listed, list};
 use crate::own_fault::OwnFault;
 use crate::own_keys::{digest, uid, version_of};
@@ -18,6 +17,7 @@ use dd_catalogue::Catalogue;
 use dd_elem::{Memory, Uid};
 use dd_records::table::{FILE, INSTANCE};
 use dd_version::Version;
+use dd_walk::Forest;
 use std::alloc::Global;
 
 /// Where the file of an image is, in a file-set.

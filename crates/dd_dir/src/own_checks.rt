@@ -2,16 +2,15 @@
 
 ghost use Rattle.std.specs.Prelude.{◌≡◌, option_map};
 ghost use Rattle.dd_set.specs.Views.{set_view};
-ghost use Rattle.dd_dir.specs.ForestViews.{tree_view};
+ghost use Rattle.dd_walk.specs.ForestViews.{tree_view};
 ghost use Rattle.dd_dir.specs.Own.{fault_at, is_bad, is_key, is_own, is_sound, key_fault, lacks_digest, suits};
 
-use crate::forest::Tree;
 use crate::own_fault::OwnFault;
-use crate::values::digest_in;
 use dd_elem::{Key, Uid, is_file_id};
 use dd_records::{Field, Level, Row, rows};
 use dd_set::{DataSet, value_at};
 use dd_version::{is_image_class, is_known_syntax};
+use dd_walk::{Tree, digest_in};
 
 /// Gives the first check that a record of this level fails. Any record below an image is a ForeignRecord.
 pub(crate) fn fault_at(level: Option<Level>, tree: &Tree<'_>) -> Option<OwnFault>

@@ -10,15 +10,15 @@ ghost use Rattle.dd_records.specs.declared.level.Level.TheVariants.{Patient, Stu
 ghost use Rattle.dd_set.specs.Views.{set_view};
 ghost use Rattle.dd_dir.specs.OwnVersions.{digest_of, patient_in, series_in, study_in, version_of};
 ghost use Rattle.dd_dir.specs.OwnViews.{IsListed, Passes, listed_view};
-ghost use Rattle.dd_dir.specs.Saying.{digest_in};
+ghost use Rattle.dd_walk.specs.Saying.{digest_in};
 
 use crate::listed_images::Listed;
 use crate::record_keys::{PatientRecord, SeriesRecord, StudyRecord, row_value};
-use crate::values::digest_in;
 use dd_elem::{Key, KeyRefused, Memory, Uid};
 use dd_records::table::{CLASS, INSTANCE, NUMBER, TRANSFER};
 use dd_set::DataSet;
 use dd_version::{Parts, PatientKeys, SeriesKeys, StudyKeys, Version};
+use dd_walk::digest_in;
 use std::alloc::Global;
 
 /// Copies `like`, where it has these bytes.

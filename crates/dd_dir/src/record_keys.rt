@@ -7,7 +7,7 @@
 ghost use Rattle.std.specs.Prelude.{◌≡◌};
 ghost use Rattle.dd_records.specs.ElementForms.{tag};
 ghost use Rattle.dd_set.specs.Views.{set_view};
-ghost use Rattle.dd_dir.specs.Saying.{key_of};
+ghost use Rattle.dd_walk.specs.Saying.{key_of};
 
 use dd_records::Row;
 use dd_records::table::{

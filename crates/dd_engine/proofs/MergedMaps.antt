@@ -15,11 +15,11 @@ use Rattle.dd_dir.specs.declared.own_fault.OwnFault.{OwnFault}
 use Rattle.dd_dir.specs.declared.own_fault.OwnFault.TheVariants.{BadWithdrawal}
 use Rattle.dd_dir.specs.Own.{Listed, own}
 use Rattle.dd_dir.specs.OwnVersions.{FailsOwn, version_of}
-use Rattle.dd_dir.specs.Reading.{Refuses}
+use Rattle.dd_walk.specs.Reading.{Refuses}
 use Rattle.dd_dir.specs.SaysItself.{SaysItself}
-use Rattle.dd_dir.specs.Trees.{Walk}
+use Rattle.dd_walk.specs.Trees.{Walk}
 use Rattle.dd_dir.specs.Withdrawn.{AreRisingUids, withdrawn_of}
-use Rattle.dd_dir.proofs.WalkFiles.{walk_or_not}
+use Rattle.dd_walk.proofs.WalkFiles.{walk_or_not}
 use Rattle.dd_version.specs.declared.parts.Parts.{Parts}
 use Rattle.dd_layout.specs.Limits.{Limits}
 use Rattle.dd_layout.specs.Layouts.{Layout}

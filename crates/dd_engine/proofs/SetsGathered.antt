@@ -6,8 +6,8 @@ use Rattle.std.proofs.Common.{refl, sym, ◌∙◌, ap, ap₂, inr, subst, arith
 use Rattle.std.proofs.lemmas.List.{append-nil, map-append, take_more}
 use Rattle.dd_dir.specs.Own.{Listed, own}
 use Rattle.dd_dir.specs.OwnVersions.{file_of, place_of, version_of}
-use Rattle.dd_dir.specs.Reading.{IsWalk, Refuses}
-use Rattle.dd_dir.specs.Trees.{Walk}
+use Rattle.dd_walk.specs.Reading.{IsWalk, Refuses}
+use Rattle.dd_walk.specs.Trees.{Walk}
 use Rattle.dd_dir.specs.Withdrawn.{AreRisingUids, withdrawn_of}
 use Rattle.dd_version.specs.declared.parts.Parts.{Parts}
 use Rattle.dd_engine.specs.declared.gathering.Gathered.{Gathered}

@@ -1,6 +1,6 @@
 -- What a merge of directories answers, together with its notes on them and on the files that they list.
 use Rattle.std.specs.Prelude.{◌≡◌, ℕ, List, Option, None, Result, Ok, Err}
-use Rattle.dd_dir.specs.Reading.{Refuses}
+use Rattle.dd_walk.specs.Reading.{Refuses}
 use Rattle.dd_layout.specs.Limits.{Limits}
 use Rattle.dd_engine.specs.declared.choice.Choice.{Choice}
 use Rattle.dd_engine.specs.declared.merge.Merged.{Merged}

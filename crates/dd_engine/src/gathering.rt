@@ -1,10 +1,10 @@
 ghost use Rattle.std.specs.Prelude.{◌≡◌, ◌≢◌, ◌⊎◌, ◌++◌, ◌∷◌, List, [], ℕ, map, None, Some, IfOk, OnErr};
 ghost use Rattle.std.specs.Prelude.{OnOk};
 ghost use Rattle.dd_catalogue.specs.Contents.{uids_of};
-ghost use Rattle.dd_dir.specs.ReadAnswers.{SaysMemory};
+ghost use Rattle.dd_walk.specs.ReadAnswers.{SaysMemory};
 ghost use Rattle.dd_dir.specs.Own.{Listed};
 ghost use Rattle.dd_dir.specs.OwnVersions.{Tells};
-ghost use Rattle.dd_dir.specs.Reading.{Refuses};
+ghost use Rattle.dd_walk.specs.Reading.{Refuses};
 ghost use Rattle.dd_engine.specs.Merging.{pick_view};
 ghost use Rattle.dd_engine.specs.MergeSteps.{AnswersSet, FailsAt, Gathers, GathersAll, Withdrawal};
 ghost use Rattle.dd_engine.specs.MergeSteps.{own_fault};
@@ -13,9 +13,10 @@ use crate::basis::Basis;
 use crate::merge::Pick;
 use crate::merge_fault::MergeFault;
 use dd_catalogue::Withdrawals;
-use dd_dir::{DirFault, Own, OwnFault, own_of, read_directory};
+use dd_dir::{Own, OwnFault, own_of};
 use dd_elem::{Memory, Uid};
 use dd_version::Version;
+use dd_walk::{DirFault, read_directory};
 use std::alloc::Global;
 use std::mem;
 

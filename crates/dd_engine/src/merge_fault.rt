@@ -1,9 +1,10 @@
 ghost use Rattle.std.specs.Prelude.{◌≡◌};
 ghost use Rattle.dd_engine.specs.declared.merge_fault.MergeFault.TheVariants as faults;
 
-use dd_dir::{DirFault, OwnFault};
+use dd_dir::OwnFault;
 use dd_elem;
 use dd_layout::PlanFault;
+use dd_walk::DirFault;
 use thiserror::Error;
 
 /// Says why a merge was not made.

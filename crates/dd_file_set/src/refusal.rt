@@ -4,9 +4,10 @@ ghost use Rattle.dd_file_set.specs.declared.refusal.ProgramFault.TheVariants as 
 ghost use Rattle.dd_file_set.specs.declared.refusal.Subject.TheVariants as subjects;
 
 use crate::image_path::PathText;
-use dd_dir::{DirFault, OwnFault};
+use dd_dir::OwnFault;
 use dd_elem::{BadSetId, BadUid, FileId, Memory};
 use dd_layout::PlanFault;
+use dd_walk::DirFault;
 use std::alloc::AllocError;
 use thiserror::Error;
 

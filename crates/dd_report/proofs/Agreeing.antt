@@ -6,10 +6,10 @@ use Rattle.dd_encoding.specs.declared.meta.Meta.{Meta}
 use Rattle.dd_encoding.specs.Meta.{class_tag, instance_tag}
 use Rattle.dd_part10.specs.Reading.{FileParts}
 use Rattle.dd_records.specs.ElementForms.{tag}
-use Rattle.dd_dir.specs.declared.forest.Tree.{Tree, out-Tree, the_lemmas}
-use Rattle.dd_dir.specs.ForestViews.{tree_view}
-use Rattle.dd_dir.specs.Saying.{digest_in, key_of}
-use Rattle.dd_dir.specs.Trees.{Node}
+use Rattle.dd_walk.specs.declared.forest.Tree.{Tree, out-Tree, the_lemmas}
+use Rattle.dd_walk.specs.ForestViews.{tree_view}
+use Rattle.dd_walk.specs.Saying.{digest_in, key_of}
+use Rattle.dd_walk.specs.Trees.{Node}
 use Rattle.dd_report.specs.Agreements.{Agreement, agreement, agreements, nearest, patient_id, standing_below}
 use Rattle.dd_report.specs.Agreements.{syntax_agreement}
 

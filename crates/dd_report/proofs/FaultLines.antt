@@ -3,7 +3,7 @@ use Rattle.std.proofs.Common.{◌≡◌, ◌∙◌, ℕ, List, [], ◌∷◌, �
 use Rattle.std.specs.Borrow.{Bor}
 use Rattle.std.specs.List.{concat}
 use Rattle.std.specs.Prelude.{Some, codes}
-use Rattle.dd_dir.specs.Trees.{Walk}
+use Rattle.dd_walk.specs.Trees.{Walk}
 use Rattle.dd_report.specs.Listing.{or_dash, set_line, set_parts}
 use Rattle.serde_json.specs.Data.{Data, Members, object}
 use Rattle.dd_json.specs.declared.value.Json.{Joined, Object}

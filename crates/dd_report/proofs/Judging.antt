@@ -6,8 +6,8 @@ use Rattle.std.specs.Option.{option_or}
 use Rattle.sha2.specs.Sha256.{sha256}
 use Rattle.sha2.specs.declared.Sha256.{Sha256}
 use Rattle.dd_elem.specs.declared.device.Read.{Ghosts as ReadOf}
-use Rattle.dd_dir.specs.Saying.{digest_in}
-use Rattle.dd_dir.specs.Trees.{Node}
+use Rattle.dd_walk.specs.Saying.{digest_in}
+use Rattle.dd_walk.specs.Trees.{Node}
 use Rattle.dd_files.specs.ReadToEnd.{IsFilled}
 use Rattle.dd_slots.specs.Slots.{HasTaken, IsSlotOf}
 use Rattle.dd_slots.specs.declared.slot.Slot.{Slot}

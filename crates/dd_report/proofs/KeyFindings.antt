@@ -20,8 +20,8 @@ use Rattle.dd_part10.specs.Streaming.{IsFileAnswer}
 use Rattle.dd_slots.specs.Slots.{IsSlotOf}
 use Rattle.dd_slots.specs.declared.slot.Slot.{Slot}
 use Rattle.dd_stream.specs.Reads.{ReadsUpTo}
-use Rattle.dd_dir.specs.Saying.{digest_in}
-use Rattle.dd_dir.specs.Trees.{Node}
+use Rattle.dd_walk.specs.Saying.{digest_in}
+use Rattle.dd_walk.specs.Trees.{Node}
 use Rattle.dd_report.specs.declared.agreements.Inherited.{Inherited}
 use Rattle.dd_report.specs.declared.findings.Finding.{Finding}
 use Rattle.dd_report.specs.declared.findings.Judgement.{Judgement}

@@ -9,9 +9,9 @@ use Rattle.serde_json.specs.Data.{Data, Members, object, string}
 use Rattle.serde_json.specs.Written.{compact_text, members_text}
 use Rattle.dd_encoding.specs.Elements.{Elements}
 use Rattle.dd_set.specs.Views.{set_view}
-use Rattle.dd_dir.specs.declared.forest.Tree.{Tree, out-Tree}
-use Rattle.dd_dir.specs.ForestViews.{tree_view}
-use Rattle.dd_dir.specs.Saying.{key_of}
+use Rattle.dd_walk.specs.declared.forest.Tree.{Tree, out-Tree}
+use Rattle.dd_walk.specs.ForestViews.{tree_view}
+use Rattle.dd_walk.specs.Saying.{key_of}
 use Rattle.dd_report.specs.declared.known.Form.{Form}
 use Rattle.dd_report.specs.Finding.{file_in}
 use Rattle.dd_report.specs.Listing.{elements_in, file_members, label_tag, members_with, record_json, record_members}

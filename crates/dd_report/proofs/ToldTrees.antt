@@ -12,10 +12,10 @@ use Rattle.dd_elem.specs.declared.device.Read.{Ghosts as ReadOf}
 use Rattle.dd_elem.specs.Device.{Gives, HasWorked}
 use Rattle.dd_elem.specs.FileIdForm.{IsFileId}
 use Rattle.dd_version.specs.Fitting.{is_empty}
-use Rattle.dd_dir.specs.declared.forest.Tree.{Tree, out-Tree, the_lemmas}
-use Rattle.dd_dir.specs.ForestViews.{tree_view, trees_view, walk_view}
-use Rattle.dd_dir.specs.Trees.{Node, Trees, Walk}
-use Rattle.dd_dir.specs.declared.forest.Forest.{Forest}
+use Rattle.dd_walk.specs.declared.forest.Tree.{Tree, out-Tree, the_lemmas}
+use Rattle.dd_walk.specs.ForestViews.{tree_view, trees_view, walk_view}
+use Rattle.dd_walk.specs.Trees.{Node, Trees, Walk}
+use Rattle.dd_walk.specs.declared.forest.Forest.{Forest}
 use Rattle.dd_files.specs.Files.{Held}
 use Rattle.dd_files.specs.Paths.{IsPathIn, id_path}
 use Rattle.dd_files.proofs.FilePaths.{id_ascii}

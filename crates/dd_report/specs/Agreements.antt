@@ -18,9 +18,9 @@ use Rattle.dd_keys.specs.Values.{or_other}
 use Rattle.dd_records.specs.declared.level.Level.TheVariants.{Image}
 use Rattle.dd_records.specs.ElementForms.{tag}
 use Rattle.dd_records.specs.Records.{kind_of}
-use Rattle.dd_dir.specs.ForestViews.{Branch}
-use Rattle.dd_dir.specs.Saying.{digest_in, key_of}
-use Rattle.dd_dir.specs.Trees.{Node, Trees, no_trees, tree}
+use Rattle.dd_walk.specs.ForestViews.{Branch}
+use Rattle.dd_walk.specs.Saying.{digest_in, key_of}
+use Rattle.dd_walk.specs.Trees.{Node, Trees, no_trees, tree}
 use Rattle.dd_report.specs.declared.checking.Comparison.{Comparison}
 use Rattle.dd_report.specs.declared.findings.Finding.{Finding}
 use Rattle.dd_report.specs.declared.findings.Finding.TheVariants.{Mislabelled, NoFile}

@@ -10,7 +10,7 @@ use Rattle.dd_elem.specs.declared.device.Read.{Ghosts as ReadOf}
 use Rattle.dd_elem.specs.FileIdForm.{IsFileId}
 use Rattle.dd_elem.specs.Tag.{text_of}
 use Rattle.dd_version.specs.Fitting.{is_empty}
-use Rattle.dd_dir.specs.Trees.{Node, Walk}
+use Rattle.dd_walk.specs.Trees.{Node, Walk}
 use Rattle.dd_report.specs.declared.checking.CheckFault.{CheckFault}
 use Rattle.dd_report.specs.declared.checking.CheckFault.TheVariants.{Memory, Unsent}
 use Rattle.dd_report.specs.declared.checking.Comparison.{Comparison}

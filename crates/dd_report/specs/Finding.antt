@@ -11,8 +11,8 @@ use Rattle.dd_stream.specs.Reads.{ReadsUpTo}
 use Rattle.dd_stream.specs.Streams.{Ends}
 use Rattle.dd_stream.specs.declared.end.End.TheVariants.{Ended}
 use Rattle.dd_records.specs.ElementForms.{tag}
-use Rattle.dd_dir.specs.Trees.{Node}
-use Rattle.dd_dir.specs.Saying.{digest_in, key_of}
+use Rattle.dd_walk.specs.Trees.{Node}
+use Rattle.dd_walk.specs.Saying.{digest_in, key_of}
 use Rattle.dd_files.specs.ReadToEnd.{ReadAmiss}
 use Rattle.dd_report.specs.declared.findings.Finding.{Finding}
 use Rattle.dd_report.specs.declared.findings.Finding.TheVariants.{Differs, Missing, NoDigest, Unreadable}

@@ -13,9 +13,9 @@ use Rattle.dd_records.specs.declared.level.Level.TheVariants.{Patient, Study, Se
 use Rattle.dd_records.specs.ElementForms.{tag}
 use Rattle.dd_records.specs.Records.{kind_of}
 use Rattle.dd_version.specs.Fitting.{is_empty}
-use Rattle.dd_dir.specs.ForestViews.{Branch}
-use Rattle.dd_dir.specs.Saying.{key_of}
-use Rattle.dd_dir.specs.Trees.{Node, Trees, Walk, no_trees, offsets, tree}
+use Rattle.dd_walk.specs.ForestViews.{Branch}
+use Rattle.dd_walk.specs.Saying.{key_of}
+use Rattle.dd_walk.specs.Trees.{Node, Trees, Walk, no_trees, offsets, tree}
 use Rattle.dd_dir.specs.Withdrawn.{withdrawn_of}
 use Rattle.dd_report.specs.declared.known.Form.{Form}
 use Rattle.dd_report.specs.declared.known.Form.TheVariants.{Short, Long}

@@ -11,9 +11,9 @@ ghost use Rattle.dd_part10.specs.Memory.{IsRefused};
 ghost use Rattle.dd_part10.specs.Reading.{FileParts};
 ghost use Rattle.dd_part10.specs.Taking.{IsScanned};
 ghost use Rattle.dd_records.specs.ElementForms.{tag};
-ghost use Rattle.dd_dir.specs.ForestViews.{tree_view};
-ghost use Rattle.dd_dir.specs.Saying.{key_of};
-ghost use Rattle.dd_dir.specs.Trees.{Node};
+ghost use Rattle.dd_walk.specs.ForestViews.{tree_view};
+ghost use Rattle.dd_walk.specs.Saying.{key_of};
+ghost use Rattle.dd_walk.specs.Trees.{Node};
 ghost use Rattle.dd_report.specs.Agreements.{IsInherited, SumsUp, agree, agreement, agreements, by_keys, compared_tags};
 ghost use Rattle.dd_report.specs.Agreements.{first_wrong, mislabelled, nearest, patient_id, standing_below};
 ghost use Rattle.dd_report.specs.Agreements.{syntax_agreement};
@@ -24,7 +24,6 @@ ghost use Rattle.dd_report.specs.Finding.{FindsBy, by_digest, without_digest};
 
 use crate::checking::Check;
 use crate::findings::{Finding, Judgement, digest_finding, judge_whole, value_in};
-use dd_dir::{Tree, digest_in};
 use dd_elem::{Memory, Read, Tag, Uid, tags};
 use dd_files::SOURCE_LIMIT;
 use dd_keys::read_kept;
@@ -32,6 +31,7 @@ use dd_part10::{self, FileFault, Scanned, StreamFault};
 use dd_records::table::{CLASS, INSTANCE, TRANSFER};
 use dd_scan::{Found, Summary};
 use dd_slots::Slot;
+use dd_walk::{Tree, digest_in};
 
 /// The tags of a file's data set that are compared, rising.
 const COMPARED: [Tag; 5] = [

@@ -1,8 +1,8 @@
 //! The files of a file-set, compared with its directory.
 ghost use Rattle.std.specs.Prelude.{◌≡◌, ◌↔◌, ◌∷◌, List, [], ℕ, IfOk, IsErr, IsTrue, not, true};
 ghost use Rattle.std.specs.Prelude.{◌&&◌};
-ghost use Rattle.dd_dir.specs.ForestViews.{tree_view, trees_view, walk_view};
-ghost use Rattle.dd_dir.specs.Trees.{Node};
+ghost use Rattle.dd_walk.specs.ForestViews.{tree_view, trees_view, walk_view};
+ghost use Rattle.dd_walk.specs.Trees.{Node};
 ghost use Rattle.dd_version.specs.Fitting.{is_empty};
 ghost use Rattle.dd_report.specs.Agreements.{IsInherited, branch_standings, found_in, is_image};
 ghost use Rattle.dd_report.specs.Agreements.{standing_below, standings_below};
@@ -18,12 +18,12 @@ use crate::batch::{Batch, Named};
 use crate::findings::{Judgement, file_in, finding_unopened, id_of, judge_by_digest};
 use crate::listing::record_count;
 use crate::telling::{tell_judgement, tell_right, tell_unreached};
-use dd_dir::{Forest, Tree};
 use dd_elem::{Memory, Read, Write};
 use dd_files::{Files, Progress, Step, file_path};
 use dd_json::Style;
 use dd_lines::LineBuffer;
 use dd_records::Level;
+use dd_walk::{Forest, Tree};
 use std::alloc::Global;
 use std::fmt;
 

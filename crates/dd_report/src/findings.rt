@@ -2,8 +2,8 @@
 ghost use Rattle.std.specs.Prelude.{◌≡◌, ℕ, List, IfSome, None, Some};
 ghost use Rattle.std.specs.Option.{option_or};
 ghost use Rattle.dd_elem.specs.FileIdForm.{IsFileId};
-ghost use Rattle.dd_dir.specs.ForestViews.{tree_view};
-ghost use Rattle.dd_dir.specs.Saying.{key_of};
+ghost use Rattle.dd_walk.specs.ForestViews.{tree_view};
+ghost use Rattle.dd_walk.specs.Saying.{key_of};
 ghost use Rattle.dd_slots.specs.Slots.{IsSlotOf};
 ghost use Rattle.dd_report.specs.Batches.{KeepsBytes, KeepsPending, judged};
 ghost use Rattle.dd_report.specs.Checking.{most_read};
@@ -11,13 +11,13 @@ ghost use Rattle.dd_report.specs.Finding.{FindsBy, FindsIn, HasFileId, IsUnread,
 ghost use Rattle.dd_report.specs.Finding.{file_in, without_digest};
 
 use crate::batch::Batch;
-use dd_dir::{Tree, digest_in};
 use dd_elem::{Read, Tag, is_file_id};
 use dd_files::digest_of;
 use dd_keys::value_at;
 use dd_part10::FileFault;
 use dd_records::table::FILE;
 use dd_slots::Slot;
+use dd_walk::{Tree, digest_in};
 
 /// Says what is wrong with the file that a record names.
 #[derive(Clone, Copy, Debug, PartialEq, Eq)]

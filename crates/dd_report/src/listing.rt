@@ -4,7 +4,7 @@ ghost use Rattle.std.specs.List.{concat};
 ghost use Rattle.dd_elem.specs.Device.{counted};
 ghost use Rattle.dd_keys.specs.Values.{value_at};
 ghost use Rattle.dd_set.specs.Views.{set_view};
-ghost use Rattle.dd_dir.specs.ForestViews.{tree_view, trees_view, walk_view};
+ghost use Rattle.dd_walk.specs.ForestViews.{tree_view, trees_view, walk_view};
 ghost use Rattle.dd_dir.specs.Withdrawn.{pieces_in, pieces_of};
 ghost use Rattle.dd_report.specs.Listing.{branch_lines, flag_of, label_of, label_tag, lines_in, lines_of};
 ghost use Rattle.dd_report.specs.Listing.{listing, long_listing, or_dash, record_count, record_line, record_parts};
@@ -15,7 +15,6 @@ ghost use Rattle.dd_lines.specs.Text.{FailsInText, TakesText};
 
 use crate::known::{Form, add_values, tags_in};
 use crate::record_json::{add_record, add_set, add_totals, add_withdrawn};
-use dd_dir::{Forest, Tree};
 use dd_elem::{Tag, Write};
 use dd_json::Style;
 use dd_keys::value_at;
@@ -23,6 +22,7 @@ use dd_lines::LineBuffer;
 use dd_records::Level;
 use dd_records::table::{FILE, PATIENT_ID, SERIES_UID, STUDY_UID};
 use dd_set::DataSet;
+use dd_walk::{Forest, Tree};
 use itoa::Buffer;
 use std::fmt;
 

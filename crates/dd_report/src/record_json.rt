@@ -1,7 +1,7 @@
 //! The records of a directory, and what is withdrawn, as JSON objects.
 ghost use Rattle.std.specs.Prelude.{◌≡◌, ◌∷◌, [], codes};
 ghost use Rattle.dd_set.specs.Views.{set_view};
-ghost use Rattle.dd_dir.specs.ForestViews.{tree_view};
+ghost use Rattle.dd_walk.specs.ForestViews.{tree_view};
 ghost use Rattle.dd_report.specs.Listing.{elements_in, members_with, record_json, record_members, set_json};
 ghost use Rattle.dd_report.specs.Listing.{totals_json, withdrawn_json};
 ghost use Rattle.dd_report.specs.MemberTexts.{back_text, front_text, member_text, more_text, open_text};
@@ -14,11 +14,11 @@ use crate::findings::{file_in, value_in};
 use crate::known::Form;
 use crate::listing::label_tag;
 use dd_dicom_json::{CharacterSet, add_elements};
-use dd_dir::Tree;
 use dd_elem::Write;
 use dd_json::{Json, add_json, add_json_line, add_member_name, add_raw};
 use dd_lines::LineBuffer;
 use dd_set::DataSet;
+use dd_walk::Tree;
 use std::fmt;
 
 /// Adds the object of a record. The File ID is a member only where the record has one; in the long form the last member

@@ -1,9 +1,9 @@
 -- What a check of a file-set has printed, by its answer.
 use Rattle.std.proofs.Common.{◌≡◌, ◌⊎◌, ℕ, Bool, true, false, List, Option, inl, inr, refl, subst}
-use Rattle.dd_dir.specs.declared.fault.DirFault.{DirFault}
-use Rattle.dd_dir.specs.ReadAnswers.{SaysMemory}
-use Rattle.dd_dir.specs.Reading.{IsWalk, Refuses}
-use Rattle.dd_dir.specs.Trees.{Walk}
+use Rattle.dd_walk.specs.declared.fault.DirFault.{DirFault}
+use Rattle.dd_walk.specs.ReadAnswers.{SaysMemory}
+use Rattle.dd_walk.specs.Reading.{IsWalk, Refuses}
+use Rattle.dd_walk.specs.Trees.{Walk}
 use Rattle.dd_elem.specs.declared.device.Read.{Ghosts as ReadOf}
 use Rattle.dd_elem.specs.declared.device.Write.{Ghosts as WriteOf}
 use Rattle.dd_files.specs.Files.{Held}

@@ -2,7 +2,7 @@
 use Rattle.std.specs.Prelude.{◌≡◌, ◌≤◌, ◌^◌, ◌∷◌, ℕ, Bool, false, true, List, [], Option, Err, IfSome, IsSomeAnd, None}
 use Rattle.std.specs.Prelude.{Ok, codes, length, slice_index_or, string_bytes}
 use Rattle.clap.specs.Words.{Text}
-use Rattle.dd_dir.specs.Reading.{Refuses}
+use Rattle.dd_walk.specs.Reading.{Refuses}
 use Rattle.dd_engine.specs.Indexed.{Indexes, IsIndexed}
 use Rattle.dd_engine.specs.IndexNotes.{NotesIndex}
 use Rattle.dd_engine.specs.MergeNotes.{NotesSets}

@@ -5,9 +5,9 @@ use Rattle.std.specs.List.{concat}
 use Rattle.clap.specs.Takes.{is_given}
 use Rattle.clap.specs.Words.{Row, Text}
 use Rattle.serde_json.specs.Data.{Data, string}
-use Rattle.dd_dir.specs.declared.fault.DirFault.{DirFault}
-use Rattle.dd_dir.specs.Reading.{IsWalk, Refuses}
-use Rattle.dd_dir.specs.Trees.{Walk}
+use Rattle.dd_walk.specs.declared.fault.DirFault.{DirFault}
+use Rattle.dd_walk.specs.Reading.{IsWalk, Refuses}
+use Rattle.dd_walk.specs.Trees.{Walk}
 use Rattle.dd_elem.specs.declared.device.Read.{Ghosts as ReadOf}
 use Rattle.dd_elem.specs.declared.device.Write.{Ghosts as WriteOf}
 use Rattle.dd_files.specs.Files.{Held}

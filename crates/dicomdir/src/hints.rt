@@ -2,12 +2,12 @@
 
 use crate::refusal::Paths;
 use crate::shell_path::{ShellPath, ShellPathText};
-use dd_dir::DirFault;
 use dd_elem::Write;
 use dd_file_set::{ProgramFault, Refusal, Subject};
 use dd_files::{Cause, Hints};
 use dd_layout::PlanFault;
 use dd_lines::print_line;
+use dd_walk::DirFault;
 
 /// The first step about a fault.
 #[derive(Clone, Copy)]

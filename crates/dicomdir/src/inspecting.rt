@@ -11,7 +11,6 @@ ghost use Rattle.dicomdir.specs.Grounds.{GroundsOfCheck, GroundsOfList};
 use crate::fault_json::print_broken_json;
 use crate::refusal::Words;
 use crate::set_directory::{directory_bytes, refusal_of};
-use dd_dir::{DirFault, read_directory};
 use dd_elem::Write;
 use dd_file_set::Refusal;
 use dd_files::{Files, Progress};
@@ -19,6 +18,7 @@ use dd_json::Style;
 use dd_line::{CheckRequest, ListRequest};
 use dd_lines::print_line;
 use dd_report::{Check, CheckFault, Comparison, Form, check_records, list_records};
+use dd_walk::{DirFault, read_directory};
 use std::alloc::Global;
 use std::fmt;
 

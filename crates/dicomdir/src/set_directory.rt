@@ -1,6 +1,6 @@
 ghost use Rattle.std.specs.Prelude.{◌≡◌, ◌<◌, ◌⊎◌, ℕ, Bool, IfErr, IfOk, IsOk, List, Option, length, map};
-ghost use Rattle.dd_dir.specs.ReadAnswers.{SaysMemory};
-ghost use Rattle.dd_dir.specs.Reading.{Refuses};
+ghost use Rattle.dd_walk.specs.ReadAnswers.{SaysMemory};
+ghost use Rattle.dd_walk.specs.Reading.{Refuses};
 ghost use Rattle.dd_engine.specs.declared.choice.Choice.{Choice};
 ghost use Rattle.dd_files.specs.Files.{Held};
 ghost use Rattle.dd_line.specs.Line.{words_of};
@@ -9,9 +9,9 @@ ghost use Rattle.dd_file_set.specs.Refusal.{IsOfWork};
 ghost use Rattle.dicomdir.specs.Grounds.{GroundsOfCheck, GroundsOfList, GroundsOfSets};
 ghost use Rattle.dicomdir.specs.Reasons.{IsDue, IsOfEngine};
 
-use dd_dir::DirFault;
 use dd_file_set::{ProgramFault, Refusal, Subject};
 use dd_files::{DIRECTORY, Files, Progress, ReadFault, SOURCE_LIMIT, Step, path_in, read_whole};
+use dd_walk::DirFault;
 use std::alloc::Global;
 
 pub(crate) fn read_directories<F: Files + Progress>(

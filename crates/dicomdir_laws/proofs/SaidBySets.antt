@@ -9,7 +9,7 @@ use Rattle.dd_dir.specs.declared.own_fault.OwnFault.{OwnFault}
 use Rattle.dd_dir.specs.Own.{Listed, own}
 use Rattle.dd_dir.specs.OwnVersions.{version_of}
 use Rattle.dd_dir.specs.Withdrawn.{withdrawn_of}
-use Rattle.dd_dir.proofs.WalkFiles.{one_walk}
+use Rattle.dd_walk.proofs.WalkFiles.{one_walk}
 use Rattle.dd_engine.specs.Merging.{AreOwn, IsOwn, SetListing, numbered, versions_in, withdrawn_in}
 use Rattle.dd_files.specs.Files.{Held}
 use Rattle.dd_version.specs.declared.parts.Parts.{Parts}

@@ -5,13 +5,14 @@ use crate::publishing::{history, label_of, limits_of, published};
 use crate::sending::{first_catalogue, first_plan};
 use dd_catalogue::Catalogue;
 use dd_dir::{
-    Forest, Own, OwnFault, Place, assemble, catalogue_of, derived_uid, own_of, places_of, publish,
-    read_directory, write_directory,
+    Own, OwnFault, Place, assemble, catalogue_of, derived_uid, own_of, places_of, publish,
+    write_directory,
 };
 use dd_elem::SetId;
 use dd_layout::PlanFault;
 use dd_set::WriteFault;
 use dd_vectors::{Sink, first_directory, refuse_allocation, refuse_each, require, was_refused};
+use dd_walk::{Forest, read_directory};
 use std::alloc::Global;
 use std::test::Fail;
 

@@ -1,7 +1,7 @@
 //! A directory cut short anywhere, and one with an offset of any value.
 
-use dd_dir::read_directory;
 use dd_vectors::{ask_all, first_directory, put_at};
+use dd_walk::read_directory;
 use std::alloc::Global;
 use std::test::Fail;
 

@@ -1,7 +1,7 @@
 use crate::publishing::published;
-use dd_dir::{Forest, Tree, read_directory};
 use dd_set::{Syntax, write_set};
 use dd_vectors::{Sink, bytes_of, claim_all};
+use dd_walk::{Forest, Tree, read_directory};
 use std::alloc::Global;
 use std::test::Fail;
 

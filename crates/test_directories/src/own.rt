@@ -2,9 +2,10 @@
 
 use crate::walks::changed;
 use dd_catalogue::Catalogue;
-use dd_dir::{Own, Place, catalogue_of, own_of, places_of, read_directory};
+use dd_dir::{Own, Place, catalogue_of, own_of, places_of};
 use dd_elem::Uid;
 use dd_vectors::{ask_all, in_words};
+use dd_walk::read_directory;
 use std::alloc::{AllocError, Global};
 use std::test::Fail;
 

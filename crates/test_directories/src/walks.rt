@@ -1,8 +1,8 @@
 //! Directories of any producer, read.
 
 use crate::publishing::{named, published};
-use dd_dir::{Forest, Tree, read_directory};
 use dd_vectors::{ask_all, deep, first_directory, put_words, v1, v2, v3};
+use dd_walk::{Forest, Tree, read_directory};
 use std::alloc::Global;
 use std::test::Fail;
 

@@ -1,8 +1,9 @@
 //! The words of the faults of the program. No run here shows some of them.
 
-use dd_dir::{DirFault, OwnFault};
+use dd_dir::OwnFault;
 use dd_elem::{BadSetId, BadUid};
 use dd_layout::PlanFault;
+use dd_walk::DirFault;
 use dicomdir::{EngineFault, MergeFault, ProgramFault};
 use std::test::Fail;
 

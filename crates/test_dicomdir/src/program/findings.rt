@@ -1,6 +1,6 @@
-use dd_dir::Tree;
 use dd_set::{Syntax, parse};
 use dd_vectors::{ByteSource, ask_all, bytes_of, failing, v1};
+use dd_walk::Tree;
 use dicomdir::{Finding, finding_of};
 use std::alloc::Global;
 use std::test::Fail;

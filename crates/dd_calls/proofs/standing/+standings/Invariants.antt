@@ -1,6 +1,6 @@
 -- The records of the trees so far were added.
 use Rattle.std.proofs.Common.{List}
-use Rattle.dd_dir.specs.Trees.{Node}
+use Rattle.dd_walk.specs.Trees.{Node}
 use Rattle.dd_calls.specs.Standings.{Inherits}
 use Rattle.dd_calls.proofs.Inheriting.{Went}
 use Rattle.dd_calls.proofs.standing.+standings.Given as goal

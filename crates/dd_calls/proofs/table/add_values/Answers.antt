@@ -1,6 +1,6 @@
 -- The value at a tag more was added.
 use Rattle.std.proofs.Common.{refl, rules}
-use Rattle.dd_dir.specs.ForestViews.{tree_view}
+use Rattle.dd_walk.specs.ForestViews.{tree_view}
 use Rattle.dd_calls.proofs.Growing.{values_more}
 use Rattle.dd_calls.proofs.table.add_values.Goals as goal
 

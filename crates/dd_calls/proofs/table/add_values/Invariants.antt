@@ -1,6 +1,6 @@
 -- The values at the tags so far were added.
 use Rattle.std.proofs.Common.{[], take}
-use Rattle.dd_dir.specs.ForestViews.{tree_view}
+use Rattle.dd_walk.specs.ForestViews.{tree_view}
 use Rattle.dd_calls.specs.Rows.{AddsRows, values_at}
 use Rattle.dd_calls.proofs.table.add_values.Given as goal
 

@@ -2,8 +2,8 @@ use Rattle.std.proofs.Common.{◌≡◌, ◌++◌, map, arith, Err, refl, sym, a
 use Rattle.std.proofs.lemmas.Grind.{common_steps}
 use Rattle.std.proofs.lemmas.List.{append-nil, map-append}
 use Rattle.std.proofs.lemmas.Result.{err_from_is_err_and}
-use Rattle.dd_dir.specs.declared.forest.Tree.{Tree}
-use Rattle.dd_dir.specs.ForestViews.{tree_view}
+use Rattle.dd_walk.specs.declared.forest.Tree.{Tree}
+use Rattle.dd_walk.specs.ForestViews.{tree_view}
 use Rattle.dd_dir.specs.OwnViews.{above_view, listed_of, listed_values, listed_view}
 use Rattle.dd_dir.proofs.ListedImages.{adding_fails, adding_goes_on, one_fails, one_listed}
 use Rattle.dd_dir.proofs.listed_images.+listing.Goals as goal

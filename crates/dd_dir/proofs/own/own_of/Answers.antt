@@ -1,7 +1,7 @@
 use Rattle.std.proofs.Common.{◌≡◌, inl, inr, List, map, ap, sym, ◌∙◌, subst}
 use Rattle.std.specs.Prelude.{All}
 use Rattle.std.proofs.lemmas.Result.{err_from_is_err_and}
-use Rattle.dd_dir.specs.ForestViews.{walk_view}
+use Rattle.dd_walk.specs.ForestViews.{walk_view}
 use Rattle.dd_dir.specs.Own.{Listed}
 use Rattle.dd_dir.specs.OwnVersions.{NamesSome, Tells}
 use Rattle.dd_dir.specs.OwnViews.{IsListed, listed_view}

@@ -3,8 +3,8 @@ use Rattle.std.proofs.Common.{◌≡◌, ◌∙◌, ℕ, List, Option, ap, map, 
 use Rattle.std.specs.Prelude.{is_some}
 use Rattle.dd_scan.specs.declared.found.Found.{Found}
 use Rattle.dd_scan.specs.Scan.{found_hit, hits_of}
-use Rattle.dd_dir.specs.ForestViews.{tree_view}
-use Rattle.dd_dir.specs.Saying.{digest_in}
+use Rattle.dd_walk.specs.ForestViews.{tree_view}
+use Rattle.dd_walk.specs.Saying.{digest_in}
 use Rattle.dd_report.specs.Agreements.{compared_tags}
 use Rattle.dd_report.proofs.Agreeing.{all_agree, set_same}
 use Rattle.dd_report.proofs.agreements.agreements.Goals as goal

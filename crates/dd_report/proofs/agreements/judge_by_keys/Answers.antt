@@ -1,6 +1,6 @@
 -- What reading the file gives says what is found of an image whose digest does not differ.
 use Rattle.std.proofs.Common.{◌∙◌, Ok, Err, ap, inl}
-use Rattle.dd_dir.specs.ForestViews.{tree_view}
+use Rattle.dd_walk.specs.ForestViews.{tree_view}
 use Rattle.dd_report.specs.Agreements.{first_wrong}
 use Rattle.dd_report.specs.Batches.{judged}
 use Rattle.dd_report.specs.Checking.{most_read}

@@ -1,7 +1,7 @@
 -- The fault of reading the file says why it is no DICOM file, unless memory ran out.
 use Rattle.std.proofs.Common.{ℕ, List, ◌∙◌, Err, Option, ap, refl, sym}
-use Rattle.dd_dir.specs.ForestViews.{tree_view}
-use Rattle.dd_dir.specs.Saying.{digest_in}
+use Rattle.dd_walk.specs.ForestViews.{tree_view}
+use Rattle.dd_walk.specs.Saying.{digest_in}
 use Rattle.dd_report.specs.Agreements.{compared_tags}
 use Rattle.dd_report.specs.Batches.{judged}
 use Rattle.dd_report.specs.Finding.{compared}

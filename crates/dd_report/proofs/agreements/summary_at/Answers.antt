@@ -1,7 +1,7 @@
 -- What a scan found of the element sums up its value.
 use Rattle.std.proofs.Common.{◌≡◌, ◌∙◌, ap, sym, subst, [], ℕ, List}
 use Rattle.dd_scan.specs.Summaries.{summary_view}
-use Rattle.dd_dir.specs.Saying.{key_of}
+use Rattle.dd_walk.specs.Saying.{key_of}
 use Rattle.dd_keys.specs.Values.{value_at}
 use Rattle.dd_keys.proofs.SummaryLaws.{found_tells}
 use Rattle.dd_report.specs.Agreements.{SumsUp, compared_tags}

@@ -1,7 +1,7 @@
 -- What is found in one more tree comes after what was found before.
 use Rattle.std.proofs.Common.{◌≡◌, ◌∙◌, ◌∷◌, Err, refl}
 use Rattle.std.proofs.lemmas.Result.{err_from_is_err_and}
-use Rattle.dd_dir.specs.ForestViews.{tree_view}
+use Rattle.dd_walk.specs.ForestViews.{tree_view}
 use Rattle.dd_report.proofs.ToldTrees.{branch_told, more_told, none_told, record_ends, trees_end}
 use Rattle.dd_report.proofs.checking.+findings.Goals as goal
 

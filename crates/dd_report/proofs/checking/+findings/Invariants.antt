@@ -1,7 +1,7 @@
 -- What is found in the trees so far is in the report, and the files hold what they held.
 use Rattle.std.proofs.Common.{◌≡◌, List, Ok, take}
-use Rattle.dd_dir.specs.ForestViews.{trees_view}
-use Rattle.dd_dir.specs.Trees.{Node}
+use Rattle.dd_walk.specs.ForestViews.{trees_view}
+use Rattle.dd_walk.specs.Trees.{Node}
 use Rattle.dd_report.specs.Agreements.{IsInherited, standings_below}
 use Rattle.dd_report.specs.Batches.{IsReady, Reports, report_of}
 use Rattle.dd_report.proofs.checking.+findings.Given as goal

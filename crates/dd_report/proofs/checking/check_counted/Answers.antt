@@ -1,6 +1,6 @@
 -- Showing how many are checked leaves the files as they were, and at the start no file waits.
 use Rattle.std.proofs.Common.{[], ◌∙◌}
-use Rattle.dd_dir.specs.ForestViews.{trees_view}
+use Rattle.dd_walk.specs.ForestViews.{trees_view}
 use Rattle.dd_report.specs.Agreements.{standings_below}
 use Rattle.dd_report.specs.Batches.{report_of}
 use Rattle.dd_lines.specs.Telling.{way_of}

@@ -1,6 +1,6 @@
 -- What is judged of the file goes into the report.
 use Rattle.std.proofs.Common.{◌∙◌, ℕ, List, refl, subst}
-use Rattle.dd_dir.specs.ForestViews.{tree_view}
+use Rattle.dd_walk.specs.ForestViews.{tree_view}
 use Rattle.dd_report.specs.Agreements.{standing_below}
 use Rattle.dd_report.specs.Batches.{Grows, judged, report_of}
 use Rattle.dd_lines.specs.Telling.{Fails}

@@ -1,6 +1,6 @@
 -- What waits goes at the end, or the writer fails in it.
 use Rattle.std.proofs.Common.{◌≢◌, Err, refl, rules}
-use Rattle.dd_dir.specs.ForestViews.{walk_view}
+use Rattle.dd_walk.specs.ForestViews.{walk_view}
 use Rattle.dd_lines.specs.Telling.{way_of}
 use Rattle.dd_report.specs.declared.checking.CheckFault.TheVariants.{Unsent}
 use Rattle.dd_report.proofs.ToldTrees.{rest_unsent, walk_unsent, walk_went}

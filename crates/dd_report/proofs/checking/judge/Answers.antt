@@ -1,6 +1,6 @@
 -- What the reader gave and what it has left are the bytes at the path.
 use Rattle.std.proofs.Common.{refl}
-use Rattle.dd_dir.specs.ForestViews.{tree_view}
+use Rattle.dd_walk.specs.ForestViews.{tree_view}
 use Rattle.dd_report.specs.Batches.{judged}
 use Rattle.dd_report.specs.declared.findings.Judgement.{Judgement}
 use Rattle.dd_report.proofs.ToldTrees.{file_found}

@@ -1,6 +1,6 @@
 -- Keys are compared only of an image, where they are asked for.
 use Rattle.std.proofs.Common.{◌∙◌, sym}
-use Rattle.dd_dir.specs.ForestViews.{tree_view}
+use Rattle.dd_walk.specs.ForestViews.{tree_view}
 use Rattle.dd_report.specs.Agreements.{is_image, standing_below}
 use Rattle.dd_report.specs.Batches.{judged}
 use Rattle.dd_report.specs.Checking.{most_read}

@@ -1,6 +1,6 @@
 -- What is found of the bytes in the slot is found by reading the file.
 use Rattle.std.proofs.Common.{◌∙◌}
-use Rattle.dd_dir.specs.ForestViews.{tree_view}
+use Rattle.dd_walk.specs.ForestViews.{tree_view}
 use Rattle.dd_report.specs.Batches.{judged}
 use Rattle.dd_report.specs.Checking.{most_read}
 use Rattle.dd_report.proofs.Judging.{finds_unreadable, finds_whole, nothing_else}

@@ -1,8 +1,8 @@
 -- Where the record has no digest the file does not wait.
 use Rattle.std.proofs.Common.{◌∙◌, Option, ap, refl, sym}
 use Rattle.std.specs.Option.{option_or}
-use Rattle.dd_dir.specs.ForestViews.{tree_view}
-use Rattle.dd_dir.specs.Saying.{digest_in}
+use Rattle.dd_walk.specs.ForestViews.{tree_view}
+use Rattle.dd_walk.specs.Saying.{digest_in}
 use Rattle.dd_report.specs.declared.findings.Finding.{Finding}
 use Rattle.dd_report.proofs.Agreeing.{set_same}
 use Rattle.dd_report.proofs.Judging.{digest_known, digest_waits, kept_whole, undigested}

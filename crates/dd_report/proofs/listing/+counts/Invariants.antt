@@ -1,6 +1,6 @@
 -- The trees so far are counted.
 use Rattle.std.proofs.Common.{◌≡◌, take}
-use Rattle.dd_dir.specs.ForestViews.{trees_view}
+use Rattle.dd_walk.specs.ForestViews.{trees_view}
 use Rattle.dd_report.specs.Listing.{record_count}
 use Rattle.dd_report.proofs.listing.+counts.Given as goal
 

@@ -1,7 +1,7 @@
 -- After the spaces what the record says.
 use Rattle.std.proofs.Common.{codes}
 use Rattle.std.specs.List.{repeat}
-use Rattle.dd_dir.specs.ForestViews.{tree_view}
+use Rattle.dd_walk.specs.ForestViews.{tree_view}
 use Rattle.dd_report.specs.Listing.{record_parts}
 use Rattle.dd_lines.specs.Telling.{shown_line}
 use Rattle.dd_lines.proofs.GoingOn.{tells_then}

@@ -1,5 +1,5 @@
 -- The ID and the UID are those of the file-set.
-use Rattle.dd_dir.specs.ForestViews.{walk_view}
+use Rattle.dd_walk.specs.ForestViews.{walk_view}
 use Rattle.dd_report.proofs.FaultLines.{set_tells}
 use Rattle.dd_report.proofs.listing.list_names.Goals as goal
 

@@ -1,6 +1,6 @@
 -- All lines go, and then all that waits.
 use Rattle.std.proofs.Common.{rules}
-use Rattle.dd_dir.specs.ForestViews.{walk_view}
+use Rattle.dd_walk.specs.ForestViews.{walk_view}
 use Rattle.dd_report.specs.Listing.{listing}
 use Rattle.dd_lines.proofs.GoingOn.{text_sent, text_unsent}
 use Rattle.dd_report.proofs.listing.list_records.Goals as goal

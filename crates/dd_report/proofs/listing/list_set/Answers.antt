@@ -1,5 +1,5 @@
 -- The names of the file-set come first, then its records.
-use Rattle.dd_dir.specs.ForestViews.{walk_view}
+use Rattle.dd_walk.specs.ForestViews.{walk_view}
 use Rattle.dd_lines.proofs.GoingOn.{tells_then}
 use Rattle.dd_report.specs.declared.known.Form.TheVariants.{Long}
 use Rattle.dd_report.specs.Listing.{lines_in, set_line}

@@ -1,7 +1,7 @@
 -- The File ID is a member where it has bytes.
 use Rattle.std.proofs.Common.{◌∙◌, ap, sym}
-use Rattle.dd_dir.specs.ForestViews.{tree_view}
-use Rattle.dd_dir.specs.Saying.{key_of}
+use Rattle.dd_walk.specs.ForestViews.{tree_view}
+use Rattle.dd_walk.specs.Saying.{key_of}
 use Rattle.dd_elem.specs.declared.tag.Tag.{Tag}
 use Rattle.dd_report.proofs.MemberLines.{with_file, without_file}
 use Rattle.dd_report.proofs.record_json.add_front.Goals as goal

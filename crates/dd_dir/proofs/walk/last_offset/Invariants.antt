@@ -1,8 +1,0 @@
-use Rattle.std.proofs.Common.{◌≡◌, drop}
-use Rattle.dd_dir.specs.ForestViews.{trees_view}
-use Rattle.dd_dir.specs.Trees.{last_offset_or}
-use Rattle.dd_dir.proofs.walk.last_offset.Given as goal
-
-abbrev pub invariant-loop-tree : goal.invariant-loop-tree
-invariant-loop-tree l = last_offset_or l.last (trees_view (drop l.tree-index l.trees))
-    ≡ last_offset_or 0 (trees_view l.trees)

@@ -1,0 +1,12 @@
+pub mod Answering
+pub mod Contents
+pub mod Deciding
+pub mod Ending
+pub mod Joining
+pub mod Lifting
+pub mod Moved
+pub mod Sequences
+pub mod WalkEnds
+pub mod WalkFiles
+pub mod WalkLaws
+pub mod WalkPlaces
