@@ -5,10 +5,10 @@ use Rattle.dd_keys.specs.declared.fault.KeyFault.{KeyFault}
 use Rattle.dd_keys.specs.Sources.{Answer}
 use Rattle.dd_version.specs.declared.parts.Parts.{Parts}
 use Rattle.dd_engine.specs.Found.{Found, HasFound}
-use Rattle.dd_engine.specs.Indexing.{Sourced, accepted, accepted_from, skipped, skipped_from, versions_of}
-use Rattle.dd_engine.specs.Supply.{Holds}
-use Rattle.dd_engine.specs.declared.sources.Sources.{Sources}
-use Rattle.dd_engine.proofs.Answering.{accepted_more, skipped_more}
+use Rattle.dd_sources.specs.Indexing.{Sourced, accepted, accepted_from, skipped, skipped_from, versions_of}
+use Rattle.dd_sources.specs.Supply.{Holds}
+use Rattle.dd_sources.specs.declared.sources.Sources.{Sources}
+use Rattle.dd_sources.proofs.Answering.{accepted_more, skipped_more}
 
 abbrev pub found_of : Sources → Found
 found_of sources = record {

@@ -1,4 +1,3 @@
-mod Answering
 mod BothFound
 mod CountedImages
 pub mod FaultsNamed
@@ -12,7 +11,6 @@ mod InHarmony
 mod KeptFiles
 mod KeptImages
 mod KeyOrder
-mod Lending
 mod MergePlans
 pub mod MergedMaps
 mod NamedPatients
@@ -30,7 +28,6 @@ mod SamePlans
 mod SameSets
 mod SetsGathered
 mod SetsNamed
-mod Settling
 mod SourcesNoted
 mod SourcesNumbered
 mod UnreachedSets

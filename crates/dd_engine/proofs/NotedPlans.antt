@@ -17,10 +17,11 @@ use Rattle.dd_engine.specs.declared.notes.ConflictingFiles.{ConflictingFiles}
 use Rattle.dd_engine.specs.declared.notes.LeftOut.{LeftOut}
 use Rattle.dd_engine.specs.declared.planning.Planned.{Planned}
 use Rattle.dd_engine.specs.Choosing.{label_for, refusal_for}
-use Rattle.dd_engine.specs.Indexed.{Indexes, as_engine}
+use Rattle.dd_sources.specs.Faults.{as_engine}
+use Rattle.dd_engine.specs.Indexed.{Indexes}
 use Rattle.dd_engine.specs.IndexNotes.{ConflictsIn, LeavesOut, NamesPatients}
 use Rattle.dd_keys.specs.Sources.{Answer}
-use Rattle.dd_engine.specs.Indexing.{Sourced, accepted, best_of_sources, versions_of}
+use Rattle.dd_sources.specs.Indexing.{Sourced, accepted, best_of_sources, versions_of}
 use Rattle.dd_engine.specs.Noting.{AreLeftOut, IsConflictOf, left_out}
 use Rattle.dd_engine.specs.PatientNames.{AreNamed, with_kept_digest}
 use Rattle.dd_engine.specs.Picking.{ArePicked, files_of, found_of}

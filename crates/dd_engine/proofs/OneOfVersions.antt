@@ -23,13 +23,13 @@ use Rattle.dd_layout.specs.Limits.{Limits}
 use Rattle.dd_layout.specs.Layouts.{Layout, layout_of}
 use Rattle.dd_engine.specs.declared.choice.Choice.{Choice}
 use Rattle.dd_engine.specs.declared.engine.Indexed.{Indexed}
-use Rattle.dd_engine.specs.declared.engine_fault.EngineFault.{EngineFault}
-use Rattle.dd_engine.specs.declared.engine_fault.EngineFault.TheVariants.{Plan}
+use Rattle.dd_sources.specs.declared.engine_fault.EngineFault.{EngineFault}
+use Rattle.dd_sources.specs.declared.engine_fault.EngineFault.TheVariants.{Plan}
 use Rattle.dd_engine.specs.Choosing.{label_for, refusal_for}
 use Rattle.dd_engine.specs.Indexed.{IsIndexed}
-use Rattle.dd_engine.specs.Indexing.{accepted, accepted_from, best_of_sources, versions_of}
+use Rattle.dd_sources.specs.Indexing.{accepted, accepted_from, best_of_sources, versions_of}
 use Rattle.dd_engine.specs.SameVersions.{Agree, AreSamePlans, AreKnown, IndexesKnown, IsVersionThere}
-use Rattle.dd_engine.specs.Supply.{AreAnswers, IsAnswer}
+use Rattle.dd_sources.specs.Supply.{AreAnswers, IsAnswer}
 
 -- ---- the versions among answers
 

@@ -16,8 +16,8 @@ use Rattle.dd_layout.specs.Plans.{records_of}
 use Rattle.dd_layout.specs.declared.fault.PlanFault.{PlanFault}
 use Rattle.dd_layout.specs.declared.fault.PlanFault.TheVariants as plans
 use Rattle.dd_engine.specs.declared.choice.Choice.{Choice}
-use Rattle.dd_engine.specs.declared.engine_fault.EngineFault.{EngineFault}
-use Rattle.dd_engine.specs.declared.engine_fault.EngineFault.TheVariants.{Memory, Absent, Unread, Plan}
+use Rattle.dd_sources.specs.declared.engine_fault.EngineFault.{EngineFault}
+use Rattle.dd_sources.specs.declared.engine_fault.EngineFault.TheVariants.{Memory, Absent, Unread, Plan}
 use Rattle.dd_engine.specs.declared.noted_index.NotedIndex.{NotedIndex}
 use Rattle.dd_engine.specs.declared.notes.ConflictingFiles.{ConflictingFiles}
 use Rattle.dd_engine.specs.declared.notes.LeftOut.{LeftOut}
@@ -26,7 +26,7 @@ use Rattle.dd_engine.specs.Choosing.{label_for}
 use Rattle.dd_engine.specs.Indexed.{Indexes, IsWithin}
 use Rattle.dd_engine.specs.IndexNotes.{ConflictsIn, FindsBoth, NotesIndex}
 use Rattle.dd_keys.specs.Sources.{Answer}
-use Rattle.dd_engine.specs.Indexing.{accepted, accepted_from, best_of_sources, versions_of}
+use Rattle.dd_sources.specs.Indexing.{accepted, accepted_from, best_of_sources, versions_of}
 use Rattle.dd_engine.specs.Noting.{AreBelow, AreLeftOut, IsBelow, IsConflictOf, LeftAs, both, first_by, first_of}
 use Rattle.dd_engine.specs.Noting.{is_other, left_as}
 use Rattle.dd_engine.specs.Picking.{FileKey, files_of, found_by}

@@ -6,8 +6,8 @@ use Rattle.dd_keys.specs.Sources.{Answer}
 use Rattle.std.specs.List.{AllByRecursion, zip}
 use Rattle.std.proofs.Common.{refl, ap, ap₂, ◌∙◌, arith}
 use Rattle.dd_version.specs.declared.parts.Parts.{Parts}
-use Rattle.dd_engine.specs.Indexing.{Sourced, accepted_from, skipped_from}
-use Rattle.dd_engine.specs.Indexing.{versions_of}
+use Rattle.dd_sources.specs.Indexing.{Sourced, accepted_from, skipped_from}
+use Rattle.dd_sources.specs.Indexing.{versions_of}
 use Rattle.dd_engine.specs.Picking.{files_of}
 
 -- the numbers of sources

@@ -1,6 +1,6 @@
 -- What was found of sources that were read before.
 use Rattle.std.specs.Prelude.{◌≡◌, ℕ, List, map}
-use Rattle.dd_engine.specs.Indexing.{accepted, skipped, versions_of}
+use Rattle.dd_sources.specs.Indexing.{accepted, skipped, versions_of}
 use Rattle.dd_keys.specs.declared.fault.KeyFault.{KeyFault}
 use Rattle.dd_keys.specs.Sources.{Answer}
 use Rattle.dd_version.specs.declared.parts.Parts.{Parts}

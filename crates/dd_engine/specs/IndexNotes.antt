@@ -3,18 +3,18 @@ use Rattle.std.specs.Prelude.{◌≡◌, ◌<◌, ℕ, List, length, Option, Non
 use Rattle.dd_layout.specs.Limits.{Limits}
 use Rattle.dd_engine.specs.declared.choice.Choice.{Choice}
 use Rattle.dd_engine.specs.declared.engine.Indexed.{Indexed}
-use Rattle.dd_engine.specs.declared.engine_fault.EngineFault.{EngineFault}
-use Rattle.dd_engine.specs.declared.engine_fault.EngineFault.TheVariants.{Memory, Absent, Unread, Plan}
+use Rattle.dd_sources.specs.declared.engine_fault.EngineFault.{EngineFault}
+use Rattle.dd_sources.specs.declared.engine_fault.EngineFault.TheVariants.{Memory, Absent, Unread, Plan}
 use Rattle.dd_engine.specs.declared.noted_index.NotedIndex.{NotedIndex}
 use Rattle.dd_engine.specs.declared.notes.ConflictingFiles.{ConflictingFiles}
 use Rattle.dd_engine.specs.declared.notes.LeftOut.{LeftOut}
 use Rattle.dd_engine.specs.declared.notes.NotedFault.{NotedFault}
 use Rattle.dd_engine.specs.Indexed.{Indexes, IsIndexed}
 use Rattle.dd_keys.specs.Sources.{Answer}
-use Rattle.dd_engine.specs.Indexing.{accepted, best_of_sources, versions_of}
+use Rattle.dd_sources.specs.Indexing.{accepted, best_of_sources, versions_of}
 use Rattle.dd_engine.specs.Noting.{AreLeftOut, IsConflictOf, IsFound}
 use Rattle.dd_engine.specs.PatientNames.{AreNamed, NamedPatient, with_kept_digest}
-use Rattle.dd_engine.specs.Supply.{AreAnswers}
+use Rattle.dd_sources.specs.Supply.{AreAnswers}
 
 -- the answer without its notes
 abbrev pub unnoted : Result NotedIndex (NotedFault EngineFault ℕ) → Result Indexed EngineFault

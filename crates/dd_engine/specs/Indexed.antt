@@ -1,27 +1,18 @@
 -- What an index of a supply of sources answers.
 use Rattle.std.specs.Prelude.{◌≡◌, ◌<◌, ℕ, List, [], All, length, Option, None, Some, Result, Ok, Err}
 use Rattle.dd_catalogue.specs.Harmony.{harmonised}
-use Rattle.dd_layout.specs.declared.fault.PlanFault.{PlanFault}
-use Rattle.dd_layout.specs.declared.fault.PlanFault.TheVariants as plans
 use Rattle.dd_layout.specs.Limits.{Limits}
 use Rattle.dd_layout.specs.Layouts.{layout_of}
 use Rattle.dd_layout.specs.Plans.{records_of}
 use Rattle.dd_engine.specs.declared.choice.Choice.{Choice}
 use Rattle.dd_engine.specs.declared.engine.Indexed.{Indexed}
-use Rattle.dd_engine.specs.declared.engine_fault.EngineFault.{EngineFault}
-use Rattle.dd_engine.specs.declared.engine_fault.EngineFault.TheVariants.{Memory, Absent, Unread, Plan}
+use Rattle.dd_sources.specs.declared.engine_fault.EngineFault.{EngineFault}
+use Rattle.dd_sources.specs.declared.engine_fault.EngineFault.TheVariants.{Memory, Absent, Unread, Plan}
 use Rattle.dd_engine.specs.Choosing.{label_for, refusal_for}
 use Rattle.dd_keys.specs.Sources.{Answer}
-use Rattle.dd_engine.specs.Indexing.{accepted, best_of_sources, skipped}
+use Rattle.dd_sources.specs.Indexing.{accepted, best_of_sources, skipped}
 use Rattle.dd_engine.specs.Picking.{ArePicked, files_of}
-use Rattle.dd_engine.specs.Supply.{AllStay, AreAnswers, EndsWith}
-
--- a refusal of a plan, in the words of an index
-abbrev pub as_engine : PlanFault → EngineFault
-as_engine plans.Memory = Memory
-as_engine (plans.Conflict one other) = Plan (plans.Conflict one other)
-as_engine (plans.TooMany level) = Plan (plans.TooMany level)
-as_engine plans.TooLarge = Plan plans.TooLarge
+use Rattle.dd_sources.specs.Supply.{AreAnswers}
 
 -- Where these are the answers for the sources, the best of their versions is laid out under the label that is asked
 -- for, with nothing withdrawn. Sources without a version are skipped, and each image is picked from the first source
@@ -68,10 +59,3 @@ abbrev pub ReadsAll : Result Indexed EngineFault → Type 0
 ReadsAll (Ok indexed) = Unit {0}
 ReadsAll (Err (Plan fault)) = Unit {0}
 ReadsAll (Err fault) = ⊥
-
--- Indexing `sources` sources ended with a fault. The refusals were `refusals` and are `refused`, and the failures of
--- their readers were `unread` and are `failed`. Where memory ran out, or the versions have no place in a directory, no
--- source failed.
-abbrev pub FailsBy : EngineFault → ℕ → (ℕ → ℕ) → (ℕ → ℕ) → (ℕ → ℕ) → (ℕ → ℕ) → Type 0
-FailsBy (Plan fault) sources refusals refused unread failed = AllStay refusals refused × AllStay unread failed
-FailsBy fault sources refusals refused unread failed = EndsWith fault sources refusals refused unread failed

@@ -1,16 +1,13 @@
-pub mod Batches
 pub mod Choosing
 pub mod IndexNotes
 pub mod Found
 pub mod Indexed
-pub mod Indexing
 pub mod Mentions
 pub mod MergeNotes
 pub mod MergeSteps
 pub mod Merging
 pub mod Noting
 pub mod Namings
-pub mod Passing
 pub mod PastFailures
 pub mod PatientNames
 pub mod Picking
@@ -20,5 +17,3 @@ pub mod SameSets
 pub mod SameVersions
 pub mod Saying
 pub mod SetNotes
-pub mod Supplies
-pub mod Supply

@@ -1,14 +1,13 @@
 ghost use Rattle.std.specs.Prelude.{◌≡◌, ◌+◌, IfErr, IfOk, IsOk};
 ghost use Rattle.dd_engine.specs.Indexed.{AnswersSupply, IsNamed, IsWithin, ReadsAll};
-ghost use Rattle.dd_engine.specs.Supplies.{AllGiven, AllThere, IndexingEndsBy};
-ghost use Rattle.dd_engine.specs.Supply.{AllStay, EachGrows};
+ghost use Rattle.dd_sources.specs.Supplies.{AllGiven, AllThere, IndexingEndsBy};
+ghost use Rattle.dd_sources.specs.Supply.{AllStay, EachGrows};
 
 use crate::choice::Choice;
-use crate::engine_fault::EngineFault;
 use crate::noted_index::index_with_notes;
-use crate::supply::Supply;
 use dd_keys::KeyFault;
 use dd_layout::{Limits, Plan};
+use dd_sources::{EngineFault, Supply};
 use std::alloc::Global;
 
 /// The result of an index of sources.

@@ -6,13 +6,12 @@ ghost use Rattle.dd_engine.specs.IndexNotes.{FindsBoth, NotesIndex};
 ghost use Rattle.dd_engine.specs.Noting.{AreBelow, IsBelow};
 
 use crate::choice::Choice;
-use crate::engine_fault::EngineFault;
 use crate::noted_index::{NotedIndex, noted_plan};
 use crate::notes::NotedFault;
-use crate::sources::Sources;
 use dd_elem::Memory;
 use dd_keys::KeyFault;
 use dd_layout::Limits;
+use dd_sources::{EngineFault, Sources};
 use dd_version::Version;
 use std::alloc::Global;
 use std::marker::Model;

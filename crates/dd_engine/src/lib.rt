@@ -3,11 +3,9 @@
 #![tactic(auto)]
 
 mod basis;
-mod batch;
 mod choice;
 mod conflict;
 mod engine;
-mod engine_fault;
 mod findings;
 mod found_sources;
 mod gathering;
@@ -24,16 +22,12 @@ mod past_failures;
 mod patient_names;
 mod picks;
 mod planning;
-mod readings;
 mod saying;
 mod set_notes;
-mod sources;
-mod supply;
 mod withdraw;
 
 pub use choice::Choice;
 pub use engine::{Indexed, index_engine};
-pub use engine_fault::EngineFault;
 pub use found_sources::{FoundSources, publish_engine};
 pub use laws::{same_sets_have_one_plan, same_versions_have_one_plan};
 pub use merge::{Merged, Pick, merge_engine};
@@ -45,5 +39,4 @@ pub use past_failures::{PastFailures, index_past_failures};
 pub use patient_names::PatientNames;
 pub use saying::first_saying;
 pub use set_notes::{SetNotes, Unreached, WithdrawnImage};
-pub use supply::Supply;
 pub use withdraw::withdraw_engine;

@@ -3,20 +3,18 @@ ghost use Rattle.dd_engine.specs.Indexed.{IsNamed, IsWithin, ReadsAll};
 ghost use Rattle.dd_keys.specs.Sources.{Answer};
 ghost use Rattle.dd_engine.specs.IndexNotes.{FindsBoth, NotesIndex, NotesSupply, unnoted};
 ghost use Rattle.dd_engine.specs.Noting.{AreBelow, IsBelow};
-ghost use Rattle.dd_engine.specs.Supplies.{AllGiven, AllThere, IndexingEndsBy};
-ghost use Rattle.dd_engine.specs.Supply.{AllStay, EachGrows, Holds};
+ghost use Rattle.dd_sources.specs.Supplies.{AllGiven, AllThere, IndexingEndsBy};
+ghost use Rattle.dd_sources.specs.Supply.{AllStay, EachGrows, Holds};
 
 use crate::basis::Basis;
 use crate::choice::Choice;
 use crate::engine::Indexed;
-use crate::engine_fault::EngineFault;
 use crate::notes::{NotedFault, Notes};
 use crate::planning::{Planned, plan_of};
-use crate::sources::{Sources, read_sources};
-use crate::supply::Supply;
 use dd_catalogue::Withdrawals;
 use dd_keys::KeyFault;
 use dd_layout::Limits;
+use dd_sources::{EngineFault, Sources, Supply, read_sources};
 use std::alloc::Global;
 
 /// The result of an index of sources, with notes on these.

@@ -1,10 +1,10 @@
 ghost use Rattle.std.specs.Prelude.{◌≡◌, None};
 
-use crate::engine_fault::EngineFault;
 use crate::merge_fault::MergeFault;
 use crate::patient_names::PatientNames;
 use dd_elem::{self, Uid};
 use dd_layout::PlanFault;
+use dd_sources::EngineFault;
 
 /// A file that is left out, since other bytes are kept of its instance.
 #[derive(Clone, Copy, Debug)]
@@ -57,7 +57,7 @@ impl<T> From<EngineFault> for NotedFault<EngineFault, T> {
 }
 
 impl<T> From<dd_elem::Memory> for NotedFault<EngineFault, T> {
-    ghost use Rattle.dd_engine.specs.declared.engine_fault.EngineFault.TheVariants as faults;
+    ghost use Rattle.dd_sources.specs.declared.engine_fault.EngineFault.TheVariants as faults;
 
     ghost from_gives = { λ _ noted. noted ≡ record { fault = faults.Memory; conflict = None } };
 

@@ -4,15 +4,13 @@ ghost use Rattle.dd_engine.specs.Indexed.{IsWithin};
 ghost use Rattle.dd_engine.specs.IndexNotes.{FindsBoth};
 ghost use Rattle.dd_engine.specs.Noting.{AreBelow, IsBelow};
 ghost use Rattle.dd_engine.specs.PastFailures.{NotesPast, RefusesPast};
-ghost use Rattle.dd_engine.specs.Supply.{AllStay, EachGrows};
+ghost use Rattle.dd_sources.specs.Supply.{AllStay, EachGrows};
 
 use crate::choice::Choice;
-use crate::engine_fault::EngineFault;
 use crate::noted_index::{NotedIndex, noted_plan};
 use crate::notes::NotedFault;
-use crate::readings::read_past_failures;
-use crate::supply::Supply;
 use dd_layout::Limits;
+use dd_sources::{EngineFault, Supply, read_past_failures};
 use std::alloc::Global;
 
 /// The result of an index that goes on past sources that fail.

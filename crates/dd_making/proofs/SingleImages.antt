@@ -31,15 +31,15 @@ use Rattle.dd_dir.specs.Withdrawn.{AreRisingUids, withdrawn_of}
 use Rattle.dd_walk.proofs.WalkFiles.{walk_or_not}
 use Rattle.dd_engine.specs.declared.choice.Choice.{Choice}
 use Rattle.dd_engine.specs.declared.engine.Indexed.{Indexed}
-use Rattle.dd_engine.specs.declared.engine_fault.EngineFault.{EngineFault}
-use Rattle.dd_engine.specs.declared.engine_fault.EngineFault.TheVariants as engine
+use Rattle.dd_sources.specs.declared.engine_fault.EngineFault.{EngineFault}
+use Rattle.dd_sources.specs.declared.engine_fault.EngineFault.TheVariants as engine
 use Rattle.dd_engine.specs.declared.merge.Merged.{Merged}
 use Rattle.dd_engine.specs.declared.merge_fault.MergeFault.{MergeFault}
 use Rattle.dd_engine.specs.declared.merge_fault.MergeFault.TheVariants as merge
 use Rattle.dd_engine.specs.Choosing.{label_for, refusal_for}
 use Rattle.dd_engine.specs.Indexed.{Indexes}
 use Rattle.dd_keys.specs.Sources.{Answer}
-use Rattle.dd_engine.specs.Indexing.{accepted, best_of_sources, versions_of}
+use Rattle.dd_sources.specs.Indexing.{accepted, best_of_sources, versions_of}
 use Rattle.dd_engine.specs.Merging.{AreOwn, IsFirst, IsForeign, IsOwn, Merges, SetListing, held_in, numbered, versions_in}
 use Rattle.dd_engine.specs.Merging.{withdrawn_in}
 use Rattle.dd_engine.specs.SameVersions.{AreSamePlans}

@@ -2,13 +2,13 @@
 use Rattle.std.specs.Prelude.{◌≡◌, ℕ, List, [], ◌∷◌, Result, Ok, Err}
 use Rattle.dd_version.specs.declared.parts.Parts.{Parts}
 use Rattle.dd_engine.specs.declared.engine.Indexed.{Indexed}
-use Rattle.dd_engine.specs.declared.engine_fault.EngineFault.{EngineFault}
-use Rattle.dd_engine.specs.declared.engine_fault.EngineFault.TheVariants as engine
+use Rattle.dd_sources.specs.declared.engine_fault.EngineFault.{EngineFault}
+use Rattle.dd_sources.specs.declared.engine_fault.EngineFault.TheVariants as engine
 use Rattle.dd_engine.specs.declared.merge.Merged.{Merged}
 use Rattle.dd_engine.specs.declared.merge_fault.MergeFault.{MergeFault}
 use Rattle.dd_engine.specs.declared.merge_fault.MergeFault.TheVariants as merge
 use Rattle.dd_keys.specs.Sources.{Answer}
-use Rattle.dd_engine.specs.Indexing.{accepted, versions_of}
+use Rattle.dd_sources.specs.Indexing.{accepted, versions_of}
 use Rattle.dd_engine.specs.SameVersions.{AreSamePlans}
 use Rattle.dd_making.specs.Images.{IsOfVersion}
 

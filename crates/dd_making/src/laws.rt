@@ -4,7 +4,7 @@ ghost use Rattle.std.specs.Prelude.{List, [], ℕ, Result};
 ghost use Rattle.dd_layout.specs.Limits.{Limits};
 ghost use Rattle.dd_engine.specs.declared.choice.Choice.{Choice};
 ghost use Rattle.dd_engine.specs.declared.engine.Indexed.{Indexed};
-ghost use Rattle.dd_engine.specs.declared.engine_fault.EngineFault.{EngineFault};
+ghost use Rattle.dd_sources.specs.declared.engine_fault.EngineFault.{EngineFault};
 ghost use Rattle.dd_engine.specs.declared.merge.Merged.{Merged};
 ghost use Rattle.dd_engine.specs.declared.merge_fault.MergeFault.{MergeFault};
 ghost use Rattle.dd_engine.specs.Indexed.{Indexes};

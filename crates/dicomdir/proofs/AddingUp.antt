@@ -16,7 +16,7 @@ use Rattle.dd_dir.specs.OwnVersions.{place_of, version_of}
 use Rattle.dd_catalogue.specs.Versions.{IsCatalogue, best_of, instance_of, kept, versions_ordered}
 use Rattle.dd_elem.specs.Ordered.{bytes_cmp}
 use Rattle.dd_engine.specs.IndexNotes.{NotesIndex}
-use Rattle.dd_engine.specs.Indexing.{accepted, accepted_from, best_of_sources, skipped_from}
+use Rattle.dd_sources.specs.Indexing.{accepted, accepted_from, best_of_sources, skipped_from}
 use Rattle.dd_engine.specs.Noting.{is_other}
 use Rattle.dd_engine.specs.SetNotes.{count_among, is_among}
 use Rattle.dd_engine.specs.Merging.{SetListing, filed_in, held_in, numbered, place_pick, versions_in, withdrawn_in}

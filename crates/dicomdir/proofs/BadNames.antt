@@ -15,7 +15,7 @@ use Rattle.std.specs.List.Sorted.{IsBinarySearchResult}
 use Rattle.std.specs.Prelude.{IfSome, IsSome, IsSomeAnd, is_ok, nat_eq, slice_get}
 use Rattle.std.specs.Str.{IsUtf8}
 use Rattle.dd_keys.specs.Sources.{Answer, AnswersSource}
-use Rattle.dd_engine.specs.Supply.{IsAnswer}
+use Rattle.dd_sources.specs.Supply.{IsAnswer}
 use Rattle.dd_files.specs.Files.{Held}
 use Rattle.dicomdir.specs.FileSupply.{IsThere, contents_at, contents_by, is_one}
 use Rattle.dicomdir.specs.Indexes.{AnswersName, most_of_source}

@@ -11,14 +11,15 @@ use Rattle.dd_elem.specs.Device.{last_count}
 use Rattle.dd_catalogue.specs.Harmony.{harmonised}
 use Rattle.dd_engine.specs.Choosing.{label_for}
 use Rattle.dd_keys.specs.Sources.{Answer, AnswersSource}
-use Rattle.dd_engine.specs.Indexing.{accepted, best_of_sources}
+use Rattle.dd_sources.specs.Indexing.{accepted, best_of_sources}
 use Rattle.dd_engine.specs.IndexNotes.{NotesIndex, NotesSupply}
-use Rattle.dd_engine.specs.PastFailures.{IsReading, NotesPast, Reading, answers_of}
-use Rattle.dd_engine.specs.Supply.{HasGivenAll, IsAnswer}
+use Rattle.dd_sources.specs.Readings.{IsReading, Reading, answers_of}
+use Rattle.dd_engine.specs.PastFailures.{NotesPast}
+use Rattle.dd_sources.specs.Supply.{HasGivenAll, IsAnswer}
 use Rattle.dd_engine.specs.declared.choice.Choice.{Choice}
 use Rattle.dd_engine.specs.declared.noted_index.NotedIndex.{NotedIndex}
 use Rattle.dd_engine.specs.declared.past_failures.PastFailures.{PastFailures}
-use Rattle.dd_engine.specs.declared.supply.Supply.{Ghosts as SupplyOf}
+use Rattle.dd_sources.specs.declared.supply.Supply.{Ghosts as SupplyOf}
 use Rattle.dd_files.specs.Files.{Held}
 use Rattle.dd_layout.specs.Limits.{Limits}
 use Rattle.dd_layout.specs.Plans.{records_of}

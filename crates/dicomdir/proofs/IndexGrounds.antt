@@ -2,11 +2,11 @@
 use Rattle.std.proofs.Common.{◌≡◌, ℕ, Bool, List, [], Option, refl, None}
 use Rattle.dd_catalogue.specs.Harmony.{harmonised}
 use Rattle.dd_engine.specs.Choosing.{label_for}
-use Rattle.dd_engine.specs.Indexing.{accepted, best_of_sources}
-use Rattle.dd_engine.specs.PastFailures.{answers_of}
+use Rattle.dd_sources.specs.Indexing.{accepted, best_of_sources}
+use Rattle.dd_sources.specs.Readings.{answers_of}
 use Rattle.dd_engine.specs.declared.choice.Choice.{Choice}
-use Rattle.dd_engine.specs.declared.engine_fault.EngineFault.{EngineFault}
-use Rattle.dd_engine.specs.declared.engine_fault.EngineFault.TheVariants as engine
+use Rattle.dd_sources.specs.declared.engine_fault.EngineFault.{EngineFault}
+use Rattle.dd_sources.specs.declared.engine_fault.EngineFault.TheVariants as engine
 use Rattle.dd_engine.specs.declared.noted_index.NotedIndex.{NotedIndex}
 use Rattle.dd_file_set.specs.declared.refusal.ProgramFault.{ProgramFault}
 use Rattle.dd_file_set.specs.declared.refusal.ProgramFault.TheVariants.{Absent, BadName, BadStage, Changed, Create, Dir}

@@ -9,9 +9,9 @@ use Rattle.dd_engine.specs.declared.noted_index.NotedIndex.{NotedIndex}
 use Rattle.dd_engine.specs.Indexed.{IsIndexed}
 use Rattle.dd_catalogue.specs.Harmony.{harmonised}
 use Rattle.dd_engine.specs.Choosing.{label_for}
-use Rattle.dd_engine.specs.Indexing.{accepted, best_of_sources, skipped_from}
+use Rattle.dd_sources.specs.Indexing.{accepted, best_of_sources, skipped_from}
 use Rattle.dd_layout.specs.Plans.{records_of}
-use Rattle.dd_engine.specs.PastFailures.{Reading, answers_of}
+use Rattle.dd_sources.specs.Readings.{Reading, answers_of}
 use Rattle.dd_files.specs.Files.{Held}
 use Rattle.dd_keys.specs.declared.fault.KeyFault.{KeyFault}
 use Rattle.dd_keys.specs.declared.fault.KeyFault.TheVariants as keys

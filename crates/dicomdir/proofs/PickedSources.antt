@@ -5,8 +5,8 @@ use Rattle.std.proofs.lemmas.List.Elements.{All-cons, All-contains, All-weaker}
 use Rattle.std.proofs.lemmas.Option.{slice_get_within}
 use Rattle.std.specs.Prelude.{All, IfSome, filter, if◌then◌else◌, slice_get}
 use Rattle.std.specs.Str.{IsUtf8}
-use Rattle.dd_engine.specs.Indexing.{accepted, accepted_from}
-use Rattle.dd_engine.specs.PastFailures.{Reading, answers_of}
+use Rattle.dd_sources.specs.Indexing.{accepted, accepted_from}
+use Rattle.dd_sources.specs.Readings.{Reading, answers_of}
 use Rattle.dd_engine.specs.Picking.{ArePicked, FileKey, file_of, files_of, found, found_by, is_image, is_one}
 use Rattle.dd_files.specs.Files.{Held}
 use Rattle.dd_records.specs.declared.record.PlanRecord.{PlanRecord}

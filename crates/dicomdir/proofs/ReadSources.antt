@@ -3,19 +3,19 @@ use Rattle.std.proofs.Common.{◌≡◌, ◌∙◌, ◌<◌, ℕ, zero, suc, Lis
 use Rattle.std.proofs.Common.{Global, String, ap, arith, get_or, length, map, refl, subst, sym, true≢false}
 use Rattle.std.specs.Prelude.{IfErr, IfOk, IfSome, slice_get}
 use Rattle.dd_engine.specs.declared.choice.Choice.{Choice}
-use Rattle.dd_engine.specs.declared.engine_fault.EngineFault.{EngineFault}
-use Rattle.dd_engine.specs.declared.engine_fault.EngineFault.TheVariants as faults
+use Rattle.dd_sources.specs.declared.engine_fault.EngineFault.{EngineFault}
+use Rattle.dd_sources.specs.declared.engine_fault.EngineFault.TheVariants as faults
 use Rattle.dd_engine.specs.declared.noted_index.NotedIndex.{NotedIndex}
 use Rattle.dd_engine.specs.declared.notes.ConflictingFiles.{ConflictingFiles}
 use Rattle.dd_engine.specs.declared.notes.NotedFault.{NotedFault}
 use Rattle.dd_engine.specs.declared.past_failures.PastFailures.{PastFailures}
-use Rattle.dd_engine.specs.declared.supply.Supply.{Ghosts as SupplyOf}
+use Rattle.dd_sources.specs.declared.supply.Supply.{Ghosts as SupplyOf}
 use Rattle.dd_engine.specs.Indexed.{Indexes as Plans, ReadsAll}
 use Rattle.dd_keys.specs.Sources.{Answer}
 use Rattle.dd_engine.specs.IndexNotes.{NotesFault, NotesIndex, NotesSupply}
-use Rattle.dd_engine.specs.PastFailures.{AreAllReadings, AreReadings, IsReading, NotesPast, Reading, RefusesPast}
-use Rattle.dd_engine.specs.PastFailures.{answers_of}
-use Rattle.dd_engine.specs.Supply.{AreAnswers, HasGivenAll, IsAnswer}
+use Rattle.dd_sources.specs.Readings.{AreAllReadings, AreReadings, IsReading, Reading, answers_of}
+use Rattle.dd_engine.specs.PastFailures.{NotesPast, RefusesPast}
+use Rattle.dd_sources.specs.Supply.{AreAnswers, HasGivenAll, IsAnswer}
 use Rattle.dd_files.specs.Files.{Held}
 use Rattle.dd_layout.specs.declared.fault.PlanFault.{PlanFault}
 use Rattle.dd_line.specs.Line.{words_of}

@@ -4,7 +4,7 @@ use Rattle.std.proofs.Common.{append-nil, append_assoc, arith, length, map, refl
 use Rattle.std.proofs.lemmas.List.{length-append}
 use Rattle.std.specs.List.{AllByRecursion}
 use Rattle.std.specs.Prelude.{◌↔◌, IfErr, if◌then◌else◌}
-use Rattle.dd_engine.specs.Indexing.{skipped_from}
+use Rattle.dd_sources.specs.Indexing.{skipped_from}
 use Rattle.dd_keys.specs.declared.fault.KeyFault.{KeyFault}
 use Rattle.dd_keys.specs.Sources.{Answer}
 use Rattle.dd_keys.specs.declared.fault.KeyFault.TheVariants as keys

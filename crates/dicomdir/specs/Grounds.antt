@@ -8,11 +8,11 @@ use Rattle.dd_engine.specs.IndexNotes.{NotesIndex}
 use Rattle.dd_engine.specs.MergeNotes.{NotesSets}
 use Rattle.dd_engine.specs.Merging.{AreOwn, IsFirst, IsForeign, IsMerged, SetListing}
 use Rattle.dd_engine.specs.MergeSteps.{MergesAs}
-use Rattle.dd_engine.specs.PastFailures.{Reading, answers_of}
+use Rattle.dd_sources.specs.Readings.{Reading, answers_of}
 use Rattle.dd_engine.specs.declared.choice.Choice.{Choice}
 use Rattle.dd_engine.specs.declared.engine.Indexed.{Indexed}
-use Rattle.dd_engine.specs.declared.engine_fault.EngineFault.{EngineFault}
-use Rattle.dd_engine.specs.declared.engine_fault.EngineFault.TheVariants as engine
+use Rattle.dd_sources.specs.declared.engine_fault.EngineFault.{EngineFault}
+use Rattle.dd_sources.specs.declared.engine_fault.EngineFault.TheVariants as engine
 use Rattle.dd_engine.specs.declared.merge.Merged.{Merged}
 use Rattle.dd_engine.specs.declared.noted_index.NotedIndex.{NotedIndex}
 use Rattle.dd_engine.specs.declared.noted_merge.NotedMerge.{NotedMerge}

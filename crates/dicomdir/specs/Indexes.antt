@@ -11,7 +11,7 @@ use Rattle.dd_engine.specs.declared.engine.Indexed.{Indexed}
 use Rattle.dd_engine.specs.declared.noted_index.NotedIndex.{NotedIndex}
 use Rattle.dd_engine.specs.Indexed.{IsIndexed}
 use Rattle.dd_engine.specs.IndexNotes.{NotesIndex}
-use Rattle.dd_engine.specs.PastFailures.{IsOfOne, Reading, answers_of}
+use Rattle.dd_sources.specs.Readings.{IsOfOne, Reading, answers_of}
 use Rattle.dd_files.specs.Files.{Held}
 use Rattle.dd_files.specs.Keeping.{IfSaid}
 use Rattle.dd_keys.specs.declared.fault.KeyFault.{KeyFault}

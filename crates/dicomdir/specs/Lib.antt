@@ -29,7 +29,7 @@ pub use Rattle.dd_engine.specs.Choosing
 pub use Rattle.dd_engine.specs.Found
 pub use Rattle.dd_engine.specs.Indexed
 pub use Rattle.dd_engine.specs.IndexNotes
-pub use Rattle.dd_engine.specs.Indexing
+pub use Rattle.dd_sources.specs.Indexing
 pub use Rattle.dd_engine.specs.MergeNotes
 pub use Rattle.dd_engine.specs.MergeSteps
 pub use Rattle.dd_engine.specs.Merging
@@ -39,7 +39,7 @@ pub use Rattle.dd_engine.specs.Picking
 pub use Rattle.dd_engine.specs.Published
 pub use Rattle.dd_engine.specs.Saying
 pub use Rattle.dd_engine.specs.SetNotes
-pub use Rattle.dd_engine.specs.Supply
+pub use Rattle.dd_sources.specs.Supply
 pub use Rattle.dd_file_set.specs.Claims
 pub use Rattle.dd_file_set.specs.Left
 pub use Rattle.dd_file_set.specs.Made

@@ -3,7 +3,7 @@ ghost use Rattle.std.proofs.Props.{props};
 ghost use Rattle.std.specs.Prelude.{◌≡◌, ℕ, IfSome, List, length, map, string_bytes, true, None, Option, Some};
 ghost use Rattle.std.specs.Borrow.{GName};
 ghost use Rattle.dd_engine.specs.Indexed.{IsNamed};
-ghost use Rattle.dd_engine.specs.declared.engine_fault.EngineFault.TheVariants as faults;
+ghost use Rattle.dd_sources.specs.declared.engine_fault.EngineFault.TheVariants as faults;
 ghost use Rattle.dd_files.specs.Files.{Held};
 ghost use Rattle.dd_files.specs.Reasons.{HasCounted, HasFailedReader};
 ghost use Rattle.dd_layout.specs.declared.fault.PlanFault.{PlanFault};
@@ -12,9 +12,9 @@ ghost use Rattle.dicomdir.specs.ListedNames.{AreRising};
 
 use crate::counted_reader::CountedReader;
 use crate::source_counts::SourceCounts;
-use dd_engine::{EngineFault, Supply};
 use dd_files::{Files, NotThere, Progress};
 use dd_slots::Lanes;
+use dd_sources::{EngineFault, Supply};
 
 pub(crate) struct FileSupply<'a, F: Files> {
     files: &'a mut F,

@@ -3,7 +3,7 @@ ghost use Rattle.std.specs.Prelude.{false, length, true};
 ghost use Rattle.dd_elem.specs.Device.{HasFailed};
 ghost use Rattle.dd_engine.specs.Indexed.{IsNamed, IsWithin};
 ghost use Rattle.dd_engine.specs.Noting.{AreBelow, IsBelow};
-ghost use Rattle.dd_engine.specs.declared.engine_fault.EngineFault.TheVariants as engine;
+ghost use Rattle.dd_sources.specs.declared.engine_fault.EngineFault.TheVariants as engine;
 ghost use Rattle.dd_files.specs.Keeping.{IfSaid};
 ghost use Rattle.dd_files.specs.Reasons.{HasCounted, HasFailedReader};
 ghost use Rattle.dd_layout.specs.declared.fault.PlanFault.{PlanFault};
@@ -31,14 +31,13 @@ use crate::source_counts::SourceCounts;
 use crate::sum::{Sum, show_sum};
 use crate::unread::{BadNames, Unread};
 use dd_elem::{Memory, Write};
-use dd_engine::{
-    EngineFault, NotedFault, NotedIndex, PastFailures, index_past_failures, index_with_notes,
-};
+use dd_engine::{NotedFault, NotedIndex, PastFailures, index_past_failures, index_with_notes};
 use dd_file_set::{FileSet, ProgramFault, Refusal, Subject};
 use dd_files::{Files, Hints, Progress, SOURCE_LIMIT, Step};
 use dd_json::Style;
 use dd_keys::KeyFault;
 use dd_layout::Limits;
+use dd_sources::EngineFault;
 use std::alloc::Global;
 use std::fmt;
 

@@ -41,9 +41,9 @@ mod telling;
 mod unread;
 
 pub use dd_engine::{
-    Choice, ConflictingFiles, EngineFault, Indexed, LeftOut, MergeFault, Merged, NotedFault,
-    NotedIndex, NotedMerge, Notes, PatientNames, Pick, SetNotes, Supply, Unreached, WithdrawnImage,
-    first_saying, index_engine, index_with_notes, merge_engine, merge_with_notes, withdraw_engine,
+    Choice, ConflictingFiles, Indexed, LeftOut, MergeFault, Merged, NotedFault, NotedIndex,
+    NotedMerge, Notes, PatientNames, Pick, SetNotes, Unreached, WithdrawnImage, first_saying,
+    index_engine, index_with_notes, merge_engine, merge_with_notes, withdraw_engine,
     withdraw_with_notes,
 };
 pub use dd_file_set::ProgramFault;
@@ -56,4 +56,5 @@ pub use dd_line::{Asked, LineFault, Verb, read_words};
 pub use dd_lines::{print_line, send_text};
 pub use dd_report::{Comparison, Finding, finding_of};
 pub use dd_slots::Lanes;
+pub use dd_sources::{EngineFault, Supply};
 pub use program::run;

@@ -28,11 +28,12 @@ use crate::piles::{Piled, Place, read_piles};
 use crate::sum::{Sum, show_sum};
 use crate::unread::{BadNames, UnreadStaged};
 use dd_elem::Write;
-use dd_engine::{EngineFault, FoundSources, NotedFault, PastFailures, publish_engine};
+use dd_engine::{FoundSources, NotedFault, PastFailures, publish_engine};
 use dd_file_set::{FileSet, ProgramFault, Refusal};
 use dd_files::{Files, Hints, Progress};
 use dd_json::Style;
 use dd_layout::Limits;
+use dd_sources::EngineFault;
 
 /// Runs `publish`: reads the lists of all these piles, prints what is skipped and what is noted, and makes the file-set
 /// of their images, or prints what would be made. The status is 3 where one of their sources was not read.

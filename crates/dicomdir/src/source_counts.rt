@@ -1,6 +1,6 @@
 ghost use Rattle.std.specs.Prelude.{◌≡◌, ◌↔◌, ◌-◌, IsTrue};
 ghost use Rattle.dd_elem.specs.Device.{counted, IsLive};
-ghost use Rattle.dd_engine.specs.Supply.{added};
+ghost use Rattle.dd_sources.specs.Supply.{added};
 ghost use Rattle.dicomdir.specs.FileSupply.{no_counts};
 
 use dd_elem::Counts;

@@ -17,9 +17,9 @@ use Rattle.dd_dir.specs.SaysItself.{SaysItself}
 use Rattle.dd_dir.specs.Visits.{Realises}
 use Rattle.dd_engine.specs.declared.choice.Choice.{Choice}
 use Rattle.dd_engine.specs.Choosing.{label_for}
-use Rattle.dd_engine.specs.Indexing.{accepted, versions_of}
+use Rattle.dd_sources.specs.Indexing.{accepted, versions_of}
 use Rattle.dd_engine.specs.Merging.{numbered, versions_in, withdrawn_in}
-use Rattle.dd_engine.specs.PastFailures.{answers_of}
+use Rattle.dd_sources.specs.Readings.{answers_of}
 use Rattle.dd_files.specs.Files.{Held}
 use Rattle.dd_records.specs.declared.label.Label.{Label}
 use Rattle.dd_layout.specs.Layouts.{Layout, layout_of}

@@ -6,8 +6,8 @@ use Rattle.std.specs.Str.{IsUtf8}
 use Rattle.std.proofs.lemmas.Option.{slice_get_cases, slice_get_within}
 use Rattle.clap.specs.Words.{Text}
 use Rattle.dd_catalogue.proofs.Members.{Member, contained}
-use Rattle.dd_engine.specs.Indexing.{accepted, accepted_from, versions_of}
-use Rattle.dd_engine.specs.PastFailures.{Reading, answers_of}
+use Rattle.dd_sources.specs.Indexing.{accepted, accepted_from, versions_of}
+use Rattle.dd_sources.specs.Readings.{Reading, answers_of}
 use Rattle.dd_files.specs.Files.{Held}
 use Rattle.dd_grammar.specs.declared.fault.SetFault.TheVariants as parsing
 use Rattle.dd_keys.specs.Answers.{Answers}

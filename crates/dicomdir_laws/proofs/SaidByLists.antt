@@ -6,7 +6,7 @@ use Rattle.std.proofs.lemmas.Option.{same_Some}
 use Rattle.clap.specs.Words.{Text}
 use Rattle.dd_catalogue.proofs.Members.{Member, contained, member_of}
 use Rattle.dd_keys.specs.Sources.{Answer}
-use Rattle.dd_engine.specs.Indexing.{accepted, accepted_from, versions_of}
+use Rattle.dd_sources.specs.Indexing.{accepted, accepted_from, versions_of}
 use Rattle.dd_files.specs.Files.{Held}
 use Rattle.dd_files.proofs.OnePaths.{one_path}
 use Rattle.dd_pile.specs.Lists.{HasList}

@@ -1,9 +1,10 @@
 use Rattle.std.proofs.Common.{Err, Ok, subst, sym, ℕ}
 use Rattle.dd_engine.specs.Indexed.{IsWithin}
 use Rattle.dd_engine.specs.Noting.{AreBelow, IsBelow}
-use Rattle.dd_engine.specs.PastFailures.{answers_of}
-use Rattle.dd_engine.specs.Supply.{Holds}
-use Rattle.dd_engine.proofs.PassedSources.{many_answers, refuses_past}
+use Rattle.dd_sources.specs.Readings.{answers_of}
+use Rattle.dd_sources.specs.Supply.{Holds}
+use Rattle.dd_sources.proofs.PassedSources.{many_answers}
+use Rattle.dd_engine.proofs.PassedSources.{refuses_past}
 use Rattle.dd_engine.proofs.SourcesNoted.{conflict_below, indexed_within, notes_below, sources_found}
 use Rattle.dd_engine.proofs.past_failures.index_past_failures.Goals as goal
 

@@ -1,0 +1,4 @@
+pub mod Answering
+pub mod Lending
+pub mod PassedSources
+pub mod Settling
