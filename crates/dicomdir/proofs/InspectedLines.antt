@@ -17,7 +17,8 @@ use Rattle.dd_line.proofs.RequestLemmas.{says_parts}
 use Rattle.dd_report.specs.declared.checking.Comparison.{Comparison}
 use Rattle.dd_report.specs.declared.known.Form.{Form}
 use Rattle.dicomdir.specs.Inspecting.{ChecksSet, IsList, ListsSet, PrintsRequested, comparison_by, comparison_in, form_by}
-use Rattle.dicomdir.specs.Inspecting.{first_path, form_in, style_by, style_in}
+use Rattle.dd_refusals.specs.Styles.{style_by}
+use Rattle.dicomdir.specs.Inspecting.{first_path, form_in, style_in}
 
 -- the first path of a line that gives one
 one_path : (r : Request) (command : Text) (given : List Row) (set : Text) → Requests r command given

@@ -1,14 +1,12 @@
 mod AddingUp
 mod BadNames
 mod BadUids
-mod CountLines
 mod CountedFiles
 mod DryRuns
 mod Due
 mod DueRefusals
 mod EmptyWords
 mod EngineMade
-mod FaultLines
 mod FirstPaths
 mod GroundedPiles
 mod HavingPaths
@@ -24,10 +22,8 @@ mod LongFiles
 mod LookedUp
 mod MadeGrounds
 mod MadeLast
-mod Masking
 mod NameParts
 mod NamesDue
-mod NoteObjects
 mod PastFailures
 mod PickedSources
 mod PilesMade

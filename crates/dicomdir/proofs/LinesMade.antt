@@ -18,7 +18,7 @@ use Rattle.dd_line.specs.declared.request.StageRequest.{StageRequest}
 use Rattle.dicomdir.specs.From.{from_text, looked_up, looked_up_list}
 use Rattle.dicomdir.specs.Indexes.{DoneIndexes, IsIndexStatus, MakesIndex}
 use Rattle.dicomdir.specs.ListedNames.{AreSources}
-use Rattle.dicomdir.specs.Inspecting.{style_by}
+use Rattle.dd_refusals.specs.Styles.{style_by}
 use Rattle.dicomdir.specs.Lines.{IndexesLine, IsIndex, IsMerge, IsPublish, IsStage, IsWithdraw, MergesLine}
 use Rattle.dicomdir.specs.Lines.{PublishesLine, StagesLine, WithdrawsLine, list_in}
 use Rattle.dicomdir.specs.Done.{IsDone}

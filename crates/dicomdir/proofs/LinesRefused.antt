@@ -4,7 +4,7 @@ use Rattle.std.proofs.Common.{◌≡◌, ◌⊎◌, ℕ, inl, inr, arith, subst,
 use Rattle.dd_line.specs.Line.{IsMissingArgument, IsRefusedWhere, IsWrongValue}
 use Rattle.dd_line.specs.declared.line.LineFault.{LineFault}
 use Rattle.dd_line.specs.declared.line.LineFault.TheVariants.{Refused, Memory}
-use Rattle.dicomdir.specs.Mistakes.{IsMistake}
+use Rattle.dd_refusals.specs.Mistakes.{IsMistake}
 
 missing_mistake : (fault : LineFault) → IsMissingArgument fault → IsMistake fault
 missing_mistake (Refused e) missing = (λ help. cc, λ version. cc)

@@ -14,7 +14,8 @@ use Rattle.dd_line.specs.Line.{words_of}
 use Rattle.dd_line.specs.Requests.{folder_of, id_of, instances_of, read_of, uid_of}
 use Rattle.dd_line.specs.declared.request.Request.{Request}
 use Rattle.dicomdir.specs.EmptyPaths.{IsOfEmptyPath, RequestsEmptyPath}
-use Rattle.dicomdir.specs.Faults.{TellsRefusal, given_list}
+use Rattle.dd_refusals.specs.Faults.{TellsRefusal}
+use Rattle.dicomdir.specs.From.{given_list}
 use Rattle.dicomdir.specs.Grounds.{HasGrounds}
 use Rattle.dicomdir.specs.Names.{choice_by}
 use Rattle.dicomdir.specs.Reasons.{IsDue, IsDueBefore}

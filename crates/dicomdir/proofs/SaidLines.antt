@@ -10,7 +10,8 @@ use Rattle.dd_elem.specs.declared.device.Write.{Ghosts as WriteOf}
 use Rattle.dd_lines.specs.Text.{TakesText, masked}
 use Rattle.dd_json.specs.declared.value.Style.{Style}
 use Rattle.dicomdir.specs.Said.{AreLines, IsLeftOut, IsNames, IsSkip, IsUnlisted, IsUnreached, SaysNotes, SaysSetNotes}
-use Rattle.dicomdir.specs.Said.{ShowsMember, left_out_words, path_at, said_line}
+use Rattle.dicomdir.specs.Said.{ShowsMember}
+use Rattle.dd_refusals.specs.Faults.{path_at}
 
 -- a line after all others
 lines_push : {T : Type 0} (IsLine : T → List ℕ → Type 0) (xs : List T) (x : T) (text line : List ℕ)
@@ -45,26 +46,7 @@ said_more {T = T} writer IsLine xs at x line a b c within (text, are, took) is n
       ),
     )
 
--- ---- the parts of a path
-
-joined_three : (a b c rest : List ℕ) → a ++ (b ++ (c ++ rest)) ≡ (a ++ (b ++ c)) ++ rest
-joined_three a b c rest = sym (append_assoc a (b ++ c) rest ∙ ap (λ (xs : List ℕ). a ++ xs) (append_assoc b c rest))
-
-pub left_out_parts : (folder joint inside kept_folder kept_joint kept_inside uid : List ℕ)
-    → said_line (codes "NOTE " ∷ folder ∷ joint ∷ inside ∷ codes ": left out for " ∷ kept_folder ∷ kept_joint ∷ kept_inside
-    ∷ codes ": same SOP Instance UID " ∷ uid ∷ codes ", other bytes" ∷ [])
-    ≡ left_out_words (folder ++ (joint ++ inside)) (kept_folder ++ (kept_joint ++ kept_inside)) uid
-left_out_parts folder joint inside kept_folder kept_joint kept_inside uid =
-    ap (λ (text : List ℕ). masked (codes "NOTE " ++ text) ++ 10 ∷ [])
-    (joined_three folder joint inside _
-    ∙ ap (λ (rest : List ℕ). (folder ++ (joint ++ inside)) ++ (codes ": left out for " ++ rest))
-    (joined_three kept_folder kept_joint kept_inside _))
-
 -- ---- answers
-
-pub on_ok_by : {T E : Type 0} {P Q : Type 0} (r : Result T E) → (P → Q) → OnOk r P → OnOk r Q
-on_ok_by (Ok x) by holds = by holds
-on_ok_by (Err e) by holds = tt
 
 pub on_ok_gives : {T E P : Type 0} (r : Result T E) → IsOk r → OnOk r P → P
 on_ok_gives (Ok x) ok holds = holds

@@ -43,3 +43,13 @@ from_in (Stage x) = from_text x.from
 from_in (Publish x) = from_text x.from
 from_in (Check x) = []
 from_in (ListSet x) = []
+
+-- the path of the list of names, as the command line spells it
+abbrev pub given_list : Request → List ℕ
+given_list (Index x) = option_map_or string_bytes x.sources.files0_from []
+given_list (Merge x) = option_map_or string_bytes x.sets.files0_from []
+given_list (Withdraw x) = []
+given_list (Stage x) = option_map_or string_bytes x.sources.files0_from []
+given_list (Publish x) = option_map_or string_bytes x.piles.files0_from []
+given_list (Check x) = []
+given_list (ListSet x) = []

@@ -4,7 +4,7 @@ use Rattle.std.specs.Prelude.{string_bytes}
 use Rattle.std.specs.List.{concat}
 use Rattle.clap.specs.Takes.{is_given}
 use Rattle.clap.specs.Words.{Row, Text}
-use Rattle.serde_json.specs.Data.{Data, string}
+use Rattle.serde_json.specs.Data.{Data}
 use Rattle.dd_walk.specs.declared.fault.DirFault.{DirFault}
 use Rattle.dd_walk.specs.Reading.{IsWalk, Refuses}
 use Rattle.dd_walk.specs.Trees.{Walk}
@@ -13,7 +13,7 @@ use Rattle.dd_elem.specs.declared.device.Write.{Ghosts as WriteOf}
 use Rattle.dd_files.specs.Files.{Held}
 use Rattle.dd_json.specs.declared.value.Style.{Style}
 use Rattle.dd_json.specs.declared.value.Style.TheVariants.{Json, Text as Plain}
-use Rattle.dd_json.specs.Values.{json_line, object_of}
+use Rattle.dd_json.specs.Values.{json_line}
 use Rattle.dd_line.specs.Line.{given_paths, json_name, keys_name, long_name, strict_name, verb_name}
 use Rattle.dd_line.specs.declared.line.Verb.TheVariants.{List as ListVerb}
 use Rattle.dd_line.specs.declared.request.Request.{Request}
@@ -26,6 +26,8 @@ use Rattle.dd_lines.specs.Text.{FailsInText, TakesText, masked}
 use Rattle.dd_report.specs.declared.checking.Comparison.{Comparison}
 use Rattle.dd_report.specs.declared.known.Form.{Form}
 use Rattle.dd_report.specs.declared.known.Form.TheVariants.{Long, Short}
+use Rattle.dd_messages.specs.FaultLines.{broken_json}
+use Rattle.dd_refusals.specs.Styles.{style_by}
 use Rattle.dicomdir.specs.Merges.{HasDirectory}
 
 -- ---- the directory
@@ -44,11 +46,6 @@ pub record IsBroken (folder : List ℕ) (files : Option Held) (fault : DirFault)
 
 -- ---- `list`
 
--- the style of the lines, which are JSON objects where that is asked for
-abbrev pub style_by : Bool → Style
-style_by true = Json
-style_by false = Plain
-
 -- the form of a listing, which is long where that is asked for
 abbrev pub form_by : Bool → Form
 form_by true = Long
@@ -63,10 +60,6 @@ pub record ListsSet {W : Type 0} (writer : WriteOf W) (style : Style) (form : Fo
       ⊎ ((status ≡ 1) × FailsInText writer old new (listing style form walk))
 
 -- ---- `check`
-
--- the object of a directory that can't be read, with its fault
-abbrev pub broken_json : Data → Data
-broken_json fault = object_of ((codes "line", string (codes "BROKEN")) ∷ (codes "fault", fault) ∷ [])
 
 -- the line of such a directory: the words of some fault, or an object with it
 abbrev pub IsBrokenLine : Style → List ℕ → Type 0

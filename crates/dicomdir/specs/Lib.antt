@@ -1,7 +1,6 @@
 pub mod Done
 pub mod DryRun
 pub mod EmptyPaths
-pub mod Faults
 pub mod FileSupply
 pub mod From
 pub mod Grounds
@@ -10,9 +9,7 @@ pub mod Inspecting
 pub mod Lines
 pub mod Last
 pub mod ListedNames
-pub mod MaskedWords
 pub mod Merges
-pub mod Mistakes
 pub mod Names
 pub mod Noted
 pub mod Origins

@@ -12,7 +12,7 @@ use Rattle.dd_line.specs.Requests.{IsOnly}
 use Rattle.dd_line.specs.declared.line.Verb.TheVariants.{Index, Merge, Withdraw, Stage, Publish}
 use Rattle.dicomdir.specs.From.{looked_up, looked_up_list}
 use Rattle.dicomdir.specs.Indexes.{MakesIndex}
-use Rattle.dicomdir.specs.Inspecting.{style_by}
+use Rattle.dd_refusals.specs.Styles.{style_by}
 use Rattle.dicomdir.specs.ListedNames.{AreSources}
 use Rattle.dicomdir.specs.Merges.{MakesMerge}
 use Rattle.dicomdir.specs.Names.{choice_by}

@@ -11,8 +11,8 @@ use Rattle.dd_json.specs.declared.value.Style.{Style}
 use Rattle.dd_layout.specs.Layouts.{Layout}
 use Rattle.dd_layout.specs.Plans.{size}
 use Rattle.dd_lines.specs.Text.{TakesText}
-use Rattle.dicomdir.specs.Done.{ending_text, images_text}
-use Rattle.dicomdir.specs.declared.making.Ending.TheVariants.{Done, Planned}
+use Rattle.dd_messages.specs.Counts.{ending_text, images_text}
+use Rattle.dd_messages.specs.declared.counts.Ending.TheVariants.{Done, Planned}
 use Rattle.dicomdir.specs.Indexes.{Indexes, bytes_of_files, limits_of, status_past}
 use Rattle.dicomdir.specs.ListedNames.{HavePaths}
 use Rattle.dicomdir.specs.Merges.{AreDirectories}

@@ -24,7 +24,7 @@ use Rattle.dd_pile.specs.declared.pile_fault.PileFault.{PileFault}
 use Rattle.dd_pile.specs.declared.pile_fault.PileFault.TheVariants as list
 use Rattle.dd_staged.specs.Sources.{Source}
 use Rattle.dd_staged.specs.Stages.{IsStage}
-use Rattle.dicomdir.specs.Done.{ending_text, images_text}
+use Rattle.dd_messages.specs.Counts.{ending_text, images_text}
 use Rattle.dicomdir.specs.Indexes.{limits_of, status_past}
 use Rattle.dicomdir.specs.ListedNames.{shown_name}
 use Rattle.dicomdir.specs.Noted.{IsNotedIndex}
@@ -35,7 +35,7 @@ use Rattle.dd_file_set.specs.Standing.{StandsWhole}
 use Rattle.dd_file_set.specs.declared.refusal.ProgramFault.{ProgramFault}
 use Rattle.dd_file_set.specs.declared.refusal.ProgramFault.TheVariants as faults
 use Rattle.dicomdir.specs.Unread.{WasRead, absent_by, answer_of, bad_names_from, listed_from, said_of}
-use Rattle.dicomdir.specs.declared.making.Ending.TheVariants.{Done}
+use Rattle.dd_messages.specs.declared.counts.Ending.TheVariants.{Done}
 use Rattle.dicomdir.specs.declared.piles.Place.{Place}
 use Rattle.dicomdir.specs.declared.piles.Piled.{Piled}
 

@@ -12,7 +12,9 @@ use Rattle.dd_line.specs.Requests.{IsRequested, folder_of, id_of, instances_of, 
 use Rattle.dd_line.specs.declared.request.Request.{Request}
 use Rattle.dd_line.specs.declared.request.Request.TheVariants.{Check, Index, List as ListSet, Merge, Publish, Stage, Withdraw}
 use Rattle.dicomdir.specs.EmptyPaths.{IsOfEmptyPath, RequestsEmptyPath}
-use Rattle.dicomdir.specs.Faults.{TellsFault, TellsRefusal, given_list}
+use Rattle.dd_messages.specs.FaultLines.{TellsFault}
+use Rattle.dd_refusals.specs.Faults.{TellsRefusal}
+use Rattle.dicomdir.specs.From.{given_list}
 use Rattle.dicomdir.specs.Grounds.{HasGrounds}
 use Rattle.dicomdir.specs.ListedNames.{FindsSources, list_of}
 use Rattle.dicomdir.specs.Names.{choice_by}

@@ -18,7 +18,7 @@ use Rattle.dd_pile.specs.declared.sum.StageSum.{StageSum}
 use Rattle.dicomdir.specs.FileSupply.{is_one}
 use Rattle.dicomdir.specs.From.{looked_up}
 use Rattle.dicomdir.specs.ListedNames.{HavePaths}
-use Rattle.dicomdir.specs.Said.{said_line}
+use Rattle.dd_messages.specs.NoteLines.{said_line}
 use Rattle.serde_json.specs.Data.{Data, string}
 
 -- ---- the last line

@@ -11,7 +11,7 @@ use Rattle.dd_line.specs.declared.request.Request.{Request}
 use Rattle.dd_line.specs.declared.request.Request.TheVariants.{Check, Index, List as ListSet, Merge, Publish, Stage, Withdraw}
 use Rattle.dicomdir.specs.From.{from_text, looked_up}
 use Rattle.dicomdir.specs.Indexes.{MakesIndex}
-use Rattle.dicomdir.specs.Inspecting.{style_by}
+use Rattle.dd_refusals.specs.Styles.{style_by}
 use Rattle.dicomdir.specs.ListedNames.{AreSources, list_of}
 use Rattle.dicomdir.specs.Merges.{MakesMerge}
 use Rattle.dicomdir.specs.Prints.{PrintsIndex, PrintsMerge}

@@ -3,13 +3,11 @@ ghost use Rattle.std.specs.Prelude.{◌≡◌, ◌<◌, ◌≤◌, ◌⊎◌, �
 ghost use Rattle.dd_elem.specs.Device.{HasFailed};
 ghost use Rattle.dd_lines.specs.Text.{FailsInText, TakesText};
 ghost use Rattle.dicomdir.specs.Inspecting.{ChecksSet, IsBrokenLine, ListsSet, comparison_by, form_by};
-ghost use Rattle.dicomdir.specs.Inspecting.{style_by};
+ghost use Rattle.dd_refusals.specs.Styles.{style_by};
 ghost use Rattle.dd_file_set.specs.Refusal.{IsOfWork};
 ghost use Rattle.dicomdir.specs.Reasons.{IsDue};
 ghost use Rattle.dicomdir.specs.Grounds.{GroundsOfCheck, GroundsOfList};
 
-use crate::fault_json::print_broken_json;
-use crate::refusal::Words;
 use crate::set_directory::{directory_bytes, refusal_of};
 use dd_elem::Write;
 use dd_file_set::Refusal;
@@ -17,6 +15,8 @@ use dd_files::{Files, Progress};
 use dd_json::Style;
 use dd_line::{CheckRequest, ListRequest};
 use dd_lines::print_line;
+use dd_messages::print_broken_json;
+use dd_refusals::{Words, style_for};
 use dd_report::{Check, CheckFault, Comparison, Form, check_records, list_records};
 use dd_walk::{DirFault, read_directory};
 use std::alloc::Global;
@@ -59,13 +59,6 @@ pub(crate) fn listing_of(alloc: Global, list: &ListRequest) -> Listing<'_>
         form: if list.long { Form::Long } else { Form::Short },
         style: style_for(list.json),
     }
-}
-
-/// Gives the style of lines that are JSON objects or not.
-pub(crate) fn style_for(json: bool) -> Style
-    ensures { result ≡ style_by json }
-{
-    if json { Style::Json } else { Style::Text }
 }
 
 pub(crate) fn run_check<F: Files + Progress, O: Write>(

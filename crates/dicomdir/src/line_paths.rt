@@ -1,8 +1,7 @@
 //! The paths that a command line gives.
 ghost use Rattle.std.specs.Prelude.{◌≡◌, IfOk, option_map, string_bytes};
 ghost use Rattle.dd_line.specs.Requests.{folder_of, read_of, written_of};
-ghost use Rattle.dicomdir.specs.Faults.{given_list};
-ghost use Rattle.dicomdir.specs.From.{from_in, looked_up, looked_up_list};
+ghost use Rattle.dicomdir.specs.From.{from_in, given_list, looked_up, looked_up_list};
 
 use dd_elem::Memory;
 use dd_files::path_in;

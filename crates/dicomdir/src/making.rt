@@ -1,29 +1,27 @@
-ghost use Rattle.std.specs.Prelude.{◌≡◌, ◌≤◌, ◌⊎◌, IfErr, IfOk, IsErr, IsOk, OnOk, false, length, string_bytes};
+ghost use Rattle.std.specs.Prelude.{◌≡◌, ◌≤◌, ◌⊎◌, IfErr, IfOk, IsErr, IsOk, false, length, string_bytes};
 ghost use Rattle.dd_elem.specs.Device.{HasFailed};
 ghost use Rattle.dd_files.specs.Keeping.{IfSaid};
 ghost use Rattle.dd_layout.specs.Plans.{size};
 ghost use Rattle.dd_lines.specs.Text.{TakesText};
-ghost use Rattle.dicomdir.specs.Done.{counts_words, ending_text, images_text, images_words, word_of};
+ghost use Rattle.dd_messages.specs.Counts.{ending_text, images_text};
 ghost use Rattle.dicomdir.specs.Grounds.{GroundsOfMaking, HasUnfitImage};
-ghost use Rattle.dicomdir.specs.Inspecting.{style_by};
+ghost use Rattle.dd_refusals.specs.Styles.{style_by};
 ghost use Rattle.dd_file_set.specs.Left.{MakesDirectoryLast};
 ghost use Rattle.dd_file_set.specs.Made.{MakesFileSet};
 ghost use Rattle.dicomdir.specs.Prints.{size_of};
 ghost use Rattle.dd_file_set.specs.Reasons.{IsDueTo};
 ghost use Rattle.dd_file_set.specs.Refusal.{IsOfWork};
-ghost use Rattle.dicomdir.specs.declared.making.Ending.TheVariants.{Done};
+ghost use Rattle.dd_messages.specs.declared.counts.Ending.TheVariants.{Done};
 
-use crate::inspecting::style_for;
 use crate::names::Names;
-use crate::note_json;
 use dd_elem::Write;
 use dd_file_set::{FileSet, Origins, Refusal, write_file_set};
 use dd_files::{Files, Progress};
 use dd_json::Style;
 use dd_layout::Plan;
 use dd_line::NewSet;
-use dd_lines::print_line;
-use itoa::Buffer;
+use dd_messages::{Ending, print_counts, print_counts_json, print_images, print_images_json};
+use dd_refusals::style_for;
 use std::alloc::Global;
 use std::fmt;
 
@@ -89,26 +87,6 @@ impl<'a> Making<'a> {
     }
 }
 
-/// What the last line of a command says of its file-set.
-#[derive(Clone, Copy)]
-pub(crate) enum Ending {
-    /// It was made.
-    Done,
-    /// It would be made.
-    Planned,
-}
-
-impl Ending {
-    fn word(self) -> &'static str
-        ensures { result.now ≡ word_of self }
-    {
-        match self {
-            Ending::Done => "DONE",
-            Ending::Planned => "PLAN",
-        }
-    }
-}
-
 /// Makes this file-set, prints that, and gives the status: 1 where the output failed.
 pub(crate) fn make_file_set<F: Files + Progress, O: Origins, W: Write>(
     alloc: Global,
@@ -149,20 +127,8 @@ pub(crate) fn tell_counts<O: Write>(ending: Ending, plan: &Plan, style: Style, o
     let (instances, bytes) = (plan.versions().len() as u64, u64::from(plan.size()));
     match style {
         Style::Text => status_of(print_counts(ending, instances, bytes, out)),
-        Style::Json => status_of(note_json::print_counts(ending.word(), instances, bytes, out)),
+        Style::Json => status_of(print_counts_json(ending.word(), instances, bytes, out)),
     }
-}
-
-fn print_counts<O: Write>(ending: Ending, instances: u64, bytes: u64, out: &mut O) -> fmt::Result
-    ensures told { OnOk result (TakesText O.Write out.old out.new
-        (counts_words (word_of ending) instances bytes)) }
-    ensures worked { IsOk result → O.failures out.new ≡ O.failures out.old }
-    ensures failed { IsErr result → HasFailed (O.failures out.old) (O.failures out.new) }
-{
-    let (mut count, mut size) = (Buffer::new(), Buffer::new());
-    let (count, size) = (count.format(instances), size.format(bytes));
-    let parts = [ending.word(), " ", count, " instances, ", size, " bytes"];
-    print_line(&parts, out)
 }
 
 /// Gives the status: 1 where the output failed.
@@ -193,30 +159,6 @@ pub(crate) fn tell_plan_of_images<O: Write>(
     let (instances, bytes) = (plan.versions().len() as u64, u64::from(plan.size()));
     match style {
         Style::Text => status_of(print_images(instances, bytes, images, out)),
-        Style::Json => status_of(note_json::print_images(instances, bytes, images, out)),
+        Style::Json => status_of(print_images_json(instances, bytes, images, out)),
     }
-}
-
-fn print_images<O: Write>(instances: u64, bytes: u64, images: u64, out: &mut O) -> fmt::Result
-    ensures told { OnOk result (TakesText O.Write out.old out.new
-        (images_words instances bytes images)) }
-    ensures worked { IsOk result → O.failures out.new ≡ O.failures out.old }
-    ensures failed { IsErr result → HasFailed (O.failures out.old) (O.failures out.new) }
-{
-    let (mut count, mut size, mut all) = (Buffer::new(), Buffer::new(), Buffer::new());
-    let (count, size) = (count.format(instances), size.format(bytes));
-    let all = all.format(images);
-    print_line(
-        &[
-            "PLAN",
-            " ",
-            count,
-            " instances, ",
-            size,
-            " bytes, ",
-            all,
-            " bytes of images",
-        ],
-        out,
-    )
 }

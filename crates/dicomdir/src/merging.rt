@@ -19,7 +19,7 @@ ghost use Rattle.dicomdir.specs.Said.{SaysSetNotes};
 ghost use Rattle.dicomdir.specs.Grounds.{GroundsOfMaking, GroundsOfSets, HasUnfitImage};
 
 use crate::dates::keep_dates;
-use crate::making::{Ending, Making, make_file_set, tell_counts};
+use crate::making::{Making, make_file_set, tell_counts};
 use crate::note_lines::{has_notes, refuse_noted, tell_conflict, tell_left_out, tell_names};
 use crate::origins::SetFiles;
 use crate::set_directory::read_directories;
@@ -31,6 +31,7 @@ use dd_file_set::{FileSet, ProgramFault, Refusal, Subject};
 use dd_files::{Files, Hints, Progress};
 use dd_json::Style;
 use dd_layout::Limits;
+use dd_messages::Ending;
 use std::alloc::Global;
 use std::{fmt, slice};
 

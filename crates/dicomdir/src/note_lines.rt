@@ -5,24 +5,25 @@ ghost use Rattle.dd_elem.specs.Device.{HasFailed};
 ghost use Rattle.dd_engine.specs.Noting.{AreBelow, IsBelow};
 ghost use Rattle.dd_line.specs.Line.{words_of};
 ghost use Rattle.dd_lines.specs.Text.{TakesText};
+ghost use Rattle.dd_messages.specs.NoteLines.{left_out_line};
 ghost use Rattle.dicomdir.specs.Noted.{HasNotes};
 ghost use Rattle.dd_file_set.specs.Refusal.{IsOfWork, IsStrict};
-ghost use Rattle.dicomdir.specs.Said.{AreLines, IsLeftOut, IsNames, IsSkip, left_out_line, left_out_words};
-ghost use Rattle.dicomdir.specs.Said.{names_words, shown_text, skip_line};
-ghost use Rattle.serde_json.specs.Data.{Data};
+ghost use Rattle.dicomdir.specs.Said.{AreLines, IsLeftOut, IsNames, IsSkip, shown_text};
 
-use crate::note_json;
-use crate::refusal::Words;
 use crate::shown_path::{ShownFile, ShownPath};
 use crate::unread::Unread;
-use dd_elem::{Key, Uid, Write};
+use dd_elem::{Uid, Write};
 use dd_engine::{ConflictingFiles, LeftOut, Notes, PatientNames};
 use dd_file_set::{ProgramFault, Refusal};
 use dd_json::Style;
 use dd_keys::KeyFault;
 use dd_layout::PlanFault;
-use dd_lines::{print_line, show_line};
-use itoa::Buffer;
+use dd_lines::print_line;
+use dd_messages::{
+    print_conflict_json, print_left_out, print_left_out_json, print_names, print_names_json,
+    tell_skip,
+};
+use dd_refusals::Words;
 use std::fmt::{self, InlineText};
 use std::str;
 
@@ -52,18 +53,6 @@ pub(crate) fn tell_skipped<O: Write>(
         tell_skip(sources[*at].as_str(), words.as_str(), style, out)?;
     }
     Ok(())
-}
-
-fn tell_skip<O: Write>(path: &str, words: &str, style: Style, out: &mut O) -> fmt::Result
-    ensures told { OnOk result ((fault : Data)
-        × TakesText O.Write out.old out.new (skip_line style path.now words.now fault)) }
-    ensures worked { IsOk result → O.failures out.new ≡ O.failures out.old }
-    ensures failed { IsErr result → HasFailed (O.failures out.old) (O.failures out.new) }
-{
-    match style {
-        Style::Text => print_line(&["SKIP ", path, ": ", words], out),
-        Style::Json => note_json::print_skip(path, words, out),
-    }
 }
 
 /// Prints each file that is left out, and which one is kept. `paths` are the sources, or the folders of the file-sets.
@@ -110,45 +99,13 @@ fn tell_left_out_for<O: Write>(
             uid,
             out,
         ),
-        Style::Json => note_json::print_left_out(
+        Style::Json => print_left_out_json(
             &[file.folder, file.joint, inside],
             &[kept.folder, kept.joint, kept_inside],
             uid,
             out,
         ),
     }
-}
-
-fn print_left_out<O: Write>(
-    file: (&str, &str, &str),
-    kept: (&str, &str, &str),
-    uid: &str,
-    out: &mut O,
-) -> fmt::Result
-    ensures told { OnOk result (TakesText O.Write out.old out.new (left_out_words
-        (file.entry.0.now ++ (file.entry.1.now ++ file.entry.2.now))
-        (kept.entry.0.now ++ (kept.entry.1.now ++ kept.entry.2.now)) uid.now)) }
-    ensures worked { IsOk result → O.failures out.new ≡ O.failures out.old }
-    ensures failed { IsErr result → HasFailed (O.failures out.old) (O.failures out.new) }
-{
-    let (folder, joint, inside) = file;
-    let (kept_folder, kept_joint, kept_inside) = kept;
-    print_line(
-        &[
-            "NOTE ",
-            folder,
-            joint,
-            inside,
-            ": left out for ",
-            kept_folder,
-            kept_joint,
-            kept_inside,
-            ": same SOP Instance UID ",
-            uid,
-            ", other bytes",
-        ],
-        out,
-    )
 }
 
 /// Gives the characters of a UID.
@@ -189,74 +146,8 @@ fn tell_names_of<O: Write>(patient: &PatientNames, style: Style, out: &mut O) ->
     let (id, names) = (patient.id().as_bytes(), patient.names());
     match style {
         Style::Text => print_names(id, names, out),
-        Style::Json => note_json::print_names(id, names, out),
+        Style::Json => print_names_json(id, names, out),
     }
-}
-
-fn print_names<O: Write>(id: &[u8], names: &[Key], out: &mut O) -> fmt::Result
-    ensures told { OnOk result ((more : List (List ℕ))
-        × TakesText O.Write out.old out.new (names_words id.now more)) }
-    ensures worked { IsOk result → O.failures out.new ≡ O.failures out.old }
-    ensures failed { IsErr result → HasFailed (O.failures out.old) (O.failures out.new) }
-{
-    let mut count = Buffer::new();
-    let count = count.format(names.len()).as_bytes();
-    show_line(
-        &[
-            b"NOTE -: Patient ID ",
-            id,
-            or_none(id),
-            b" has ",
-            count,
-            b" names: ",
-            name_at(names, 0),
-            mark_before(names, 1),
-            name_at(names, 1),
-            mark_before(names, 2),
-            name_at(names, 2),
-            mark_before(names, 3),
-            name_at(names, 3),
-            mark_before(names, 4),
-            name_at(names, 4),
-            mark_before(names, 5),
-            name_at(names, 5),
-            mark_before(names, 6),
-            name_at(names, 6),
-            mark_before(names, 7),
-            name_at(names, 7),
-            mark_before(names, 8),
-            name_at(names, 8),
-            mark_before(names, 9),
-            name_at(names, 9),
-            mark_behind(names),
-        ],
-        out,
-    )
-}
-
-/// Gives what follows the ID: `NOID` also stands for a patient without an ID.
-fn or_none(id: &[u8]) -> &[u8] {
-    if id == b"NOID".as_slice() {
-        b" or none"
-    } else {
-        b""
-    }
-}
-
-fn name_at(names: &[Key], at: usize) -> &[u8] {
-    match names.get(at) {
-        Some(name) if name.as_bytes().is_empty() => b"-",
-        Some(name) => name.as_bytes(),
-        None => b"",
-    }
-}
-
-fn mark_before(names: &[Key], at: usize) -> &[u8] {
-    if at < names.len() { b", " } else { b"" }
-}
-
-fn mark_behind(names: &[Key]) -> &[u8] {
-    if names.len() > 10 { b", .." } else { b"" }
 }
 
 /// Prints which files have the two instances that conflict, if the plan is refused for two. `paths` are the sources, or
@@ -288,7 +179,7 @@ fn tell_has<O: Write>(
     let (inside, uid) = (inside.as_str(), uid.as_str());
     match style {
         Style::Text => print_has((file.folder, file.joint, inside), uid, out),
-        Style::Json => note_json::print_conflict(&[file.folder, file.joint, inside], uid, out),
+        Style::Json => print_conflict_json(&[file.folder, file.joint, inside], uid, out),
     }
 }
 

@@ -18,7 +18,7 @@ ghost use Rattle.dicomdir.specs.ListedNames.{AreOfSources, HavePaths};
 ghost use Rattle.dicomdir.specs.Done.{IsDone};
 ghost use Rattle.dicomdir.specs.Names.{choice_by};
 ghost use Rattle.dd_file_set.specs.Refusal.{IsOfWork};
-ghost use Rattle.dicomdir.specs.Faults.{is_quiet};
+ghost use Rattle.dd_refusals.specs.Faults.{is_quiet};
 ghost use Rattle.dicomdir.specs.Reasons.{IsDue};
 ghost use Rattle.dicomdir.specs.Refused.{IsRefused, IsRefusedLine, refuses_notes};
 ghost use Rattle.dicomdir.specs.Words.{IsRequestStatus, IsStatusOf, IsTaken, MakesOf, MakesRequested, SaysOf};
@@ -27,21 +27,19 @@ ghost use Rattle.dicomdir.specs.Words.{SaysRequested, StagesOf, StagesRequested,
 use crate::empty_paths::empty_path;
 use crate::index::run_index;
 use crate::inspecting::{check_of, listing_of, run_check, run_list};
-use crate::line_flags::is_quiet;
 use crate::line_paths::{LinePaths, from_of, looked_up, paths_of, written_in};
-use crate::line_refusal::refuse_line;
 use crate::making::Making;
 use crate::merging::{run_merge, run_withdraw};
 use crate::names::{Names, names_of};
 use crate::publishing::run_publish;
-use crate::refusal::Paths;
 use crate::source_paths::{all_sources, bad_names_in, paths_or};
 use crate::staging::{Sources, run_stage};
-use crate::telling::{shows_hints, tell_empty, tell_refusal, tell_with_hints};
+use crate::telling::{tell_empty, tell_refusal};
 use dd_elem::Write;
 use dd_file_set::Refusal;
 use dd_files::{Files, Hints, Progress};
 use dd_line::{Request, read_request};
+use dd_refusals::{Paths, is_quiet, refuse_line, shows_hints, tell_with_hints};
 use std::alloc::Global;
 
 #[derive(Clone, Copy)]

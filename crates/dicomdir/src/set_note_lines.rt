@@ -4,18 +4,18 @@ ghost use Rattle.std.specs.Prelude.{length, true};
 ghost use Rattle.dd_elem.specs.Device.{HasFailed};
 ghost use Rattle.dd_line.specs.Line.{words_of};
 ghost use Rattle.dd_lines.specs.Text.{TakesText};
+ghost use Rattle.dd_messages.specs.NoteLines.{unreached_line};
 ghost use Rattle.dicomdir.specs.Noted.{HasSetNotes};
-ghost use Rattle.dicomdir.specs.Said.{AreLines, IsUnlisted, IsUnreached, path_at, unlisted_line};
-ghost use Rattle.dicomdir.specs.Said.{unreached_line, unreached_words};
+ghost use Rattle.dd_refusals.specs.Faults.{path_at};
+ghost use Rattle.dicomdir.specs.Said.{AreLines, IsUnlisted, IsUnreached};
 
-use crate::note_json;
 use crate::note_lines::{UidText, uid_text};
 use crate::shown_path::{ShownFile, ShownPath};
 use dd_elem::{Uid, Write};
 use dd_engine::{Pick, SetNotes, Unreached, WithdrawnImage};
 use dd_json::Style;
 use dd_lines::print_line;
-use itoa::Buffer;
+use dd_messages::{print_withdrawn_json, tell_unlisted_uid, tell_unreached_set};
 use std::fmt;
 
 /// Prints which file-sets have records that are not reached, and how many.
@@ -51,31 +51,6 @@ fn tell_unreached_in<O: Write>(
     ensures failed { IsErr result → HasFailed (O.failures out.old) (O.failures out.new) }
 {
     tell_unreached_set(folders[note.set].as_str(), note.records, style, out)
-}
-
-fn tell_unreached_set<O: Write>(set: &str, records: u64, style: Style, out: &mut O) -> fmt::Result
-    ensures told { OnOk result (TakesText O.Write out.old out.new
-        (unreached_line style set.now records)) }
-    ensures worked { IsOk result → O.failures out.new ≡ O.failures out.old }
-    ensures failed { IsErr result → HasFailed (O.failures out.old) (O.failures out.new) }
-{
-    match style {
-        Style::Text => print_unreached(set, records, out),
-        Style::Json => note_json::print_unreached(set, records, out),
-    }
-}
-
-fn print_unreached<O: Write>(set: &str, records: u64, out: &mut O) -> fmt::Result
-    ensures told { OnOk result (TakesText O.Write out.old out.new (unreached_words set.now records)) }
-    ensures worked { IsOk result → O.failures out.new ≡ O.failures out.old }
-    ensures failed { IsErr result → HasFailed (O.failures out.old) (O.failures out.new) }
-{
-    let mut count = Buffer::new();
-    let count = count.format(records);
-    print_line(
-        &["NOTE ", set, ": ", count, " records are not reached"],
-        out,
-    )
 }
 
 /// Prints each image whose instance a file-set in one of these folders withdraws, and which set that is. A withdrawal
@@ -119,9 +94,7 @@ fn tell_withdrawn_in<O: Write>(
     let (inside, uid) = (inside.as_str(), uid.as_str());
     match style {
         Style::Text => print_withdrawn((file.folder, file.joint, inside), by, uid, out),
-        Style::Json => {
-            note_json::print_withdrawn(&[file.folder, file.joint, inside], by, uid, out)
-        }
+        Style::Json => { print_withdrawn_json(&[file.folder, file.joint, inside], by, uid, out) }
     }
 }
 
@@ -161,17 +134,6 @@ pub(crate) fn tell_unlisted<O: Write>(unlisted: &[Uid], style: Style, out: &mut 
         tell_unlisted_uid(uid_text(instance), style, out)?;
     }
     Ok(())
-}
-
-fn tell_unlisted_uid<O: Write>(uid: &str, style: Style, out: &mut O) -> fmt::Result
-    ensures told { OnOk result (TakesText O.Write out.old out.new (unlisted_line style uid.now)) }
-    ensures worked { IsOk result → O.failures out.new ≡ O.failures out.old }
-    ensures failed { IsErr result → HasFailed (O.failures out.old) (O.failures out.new) }
-{
-    match style {
-        Style::Text => print_line(&["NOTE -: ", uid, " is in no record"], out),
-        Style::Json => note_json::print_unlisted(uid, out),
-    }
 }
 
 pub(crate) fn has_set_notes(notes: &SetNotes<'_>) -> bool

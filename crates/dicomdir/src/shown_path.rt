@@ -1,6 +1,7 @@
 ghost use Rattle.std.specs.Prelude.{◌≡◌, ◌<◌, ℕ, List, length};
 ghost use Rattle.dd_line.specs.Line.{words_of};
-ghost use Rattle.dicomdir.specs.Said.{ShowsMember, path_at, shown_text};
+ghost use Rattle.dd_refusals.specs.Faults.{path_at};
+ghost use Rattle.dicomdir.specs.Said.{ShowsMember, shown_text};
 
 use dd_engine::Pick;
 use dd_file_set::{IdPath, PathText};

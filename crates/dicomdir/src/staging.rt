@@ -7,7 +7,7 @@ ghost use Rattle.dd_line.specs.Line.{words_of};
 ghost use Rattle.dd_lines.specs.Text.{TakesText};
 ghost use Rattle.dd_pile.specs.Refusals.{IsDueTo, Names};
 ghost use Rattle.dicomdir.specs.From.{from_text, looked_up};
-ghost use Rattle.dicomdir.specs.Inspecting.{style_by};
+ghost use Rattle.dd_refusals.specs.Styles.{style_by};
 ghost use Rattle.dicomdir.specs.Last.{StagesListLast};
 ghost use Rattle.dd_file_set.specs.Refusal.{IsOfWork};
 ghost use Rattle.dicomdir.specs.Reasons.{IsDue};
@@ -19,11 +19,10 @@ ghost use Rattle.dicomdir.specs.Stages.{MakesNamed, Stages, fault_of, staged_tex
 ghost use Rattle.dicomdir.specs.Grounds.{GroundsOfStage, HasNoList};
 
 use crate::file_supply::contains;
-use crate::inspecting::style_for;
 use crate::line_paths::looked_up;
 use crate::making::status_of;
-use crate::note_json;
 use crate::pile_path::{PileFolder, PilePath};
+use crate::staged_json;
 use dd_elem::{Memory, Write};
 use dd_file_set::{PathText, ProgramFault, Refusal, Subject};
 use dd_files::{Files, Progress};
@@ -31,6 +30,7 @@ use dd_json::Style;
 use dd_line::StageRequest;
 use dd_lines::print_line;
 use dd_pile::{STAGED, StageRefusal, StageSource, StageSum, stage_sources};
+use dd_refusals::style_for;
 use itoa::Buffer;
 use std::alloc::Global;
 use std::fmt;
@@ -247,7 +247,7 @@ fn tell_staged<O: Write>(sum: &StageSum, style: Style, out: &mut O) -> u8
 {
     match style {
         Style::Text => status_of(print_staged(sum, out)),
-        Style::Json => status_of(note_json::print_staged(sum, out)),
+        Style::Json => status_of(staged_json::print_staged(sum, out)),
     }
 }
 

@@ -1,8 +1,8 @@
 -- The numbers are those of the plan.
 use Rattle.std.proofs.Common.{◌∙◌, ℕ, List, ap, ap₂, length, subst}
 use Rattle.dd_lines.specs.Text.{TakesText}
+use Rattle.dd_messages.specs.Counts.{images_words}
 use Rattle.dicomdir.proofs.SaidLines.{on_ok_gives}
-use Rattle.dicomdir.specs.Done.{images_words}
 use Rattle.dicomdir.proofs.making.tell_plan_of_images.Goals as goal
 
 pub returns-in-Text-clause-done : goal.returns-in-Text-clause-done

@@ -1,6 +1,7 @@
 -- The kinds of lines are printed one after the other.
 use Rattle.dd_line.specs.Line.{words_of}
-use Rattle.dicomdir.proofs.SaidLines.{SaidTo, on_ok_by, set_notes_said}
+use Rattle.dd_messages.proofs.OkAnswers.{on_ok_by}
+use Rattle.dicomdir.proofs.SaidLines.{SaidTo, set_notes_said}
 use Rattle.dicomdir.specs.Said.{IsNames}
 use Rattle.dicomdir.proofs.merging.tell_noted.Goals as goal
 

@@ -2,7 +2,8 @@
 use Rattle.std.proofs.Common.{arith, refl, subst}
 use Rattle.dd_line.specs.Line.{words_of}
 use Rattle.dicomdir.proofs.SaidLines.{said_more}
-use Rattle.dicomdir.specs.Said.{IsLeftOut, left_out_line, shown_text}
+use Rattle.dd_messages.specs.NoteLines.{left_out_line}
+use Rattle.dicomdir.specs.Said.{IsLeftOut, shown_text}
 use Rattle.dicomdir.proofs.note_lines.tell_left_out.Goals as goal
 
 pub loop-note-preserved : goal.loop-note-preserved

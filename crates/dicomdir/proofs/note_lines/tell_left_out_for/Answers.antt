@@ -2,7 +2,8 @@
 use Rattle.std.proofs.Common.{◌∙◌, ◌++◌, ℕ, List, ap, ap₂, subst}
 use Rattle.std.specs.Prelude.{OnOk}
 use Rattle.dd_lines.specs.Text.{TakesText}
-use Rattle.dicomdir.specs.Said.{left_out_words, shown_text}
+use Rattle.dd_messages.specs.NoteLines.{left_out_words}
+use Rattle.dicomdir.specs.Said.{shown_text}
 use Rattle.dicomdir.proofs.note_lines.tell_left_out_for.Goals as goal
 
 pub returns-in-Text-clause-told : goal.returns-in-Text-clause-told

@@ -3,8 +3,9 @@ use Rattle.std.proofs.Common.{◌≡◌, ℕ, List, [], ap, ap₂, length, rules
 use Rattle.dd_json.specs.Values.{json_line}
 use Rattle.dd_json.specs.declared.value.Style.TheVariants.{Json, Text}
 use Rattle.dd_lines.specs.Text.{TakesText}
-use Rattle.dicomdir.proofs.SaidLines.{on_ok_by}
-use Rattle.dicomdir.specs.Said.{IsNames, names_json, names_words}
+use Rattle.dd_messages.proofs.OkAnswers.{on_ok_by}
+use Rattle.dd_messages.specs.NoteLines.{names_json, names_words}
+use Rattle.dicomdir.specs.Said.{IsNames}
 use Rattle.serde_json.specs.Data.{Data, null}
 use Rattle.dicomdir.proofs.note_lines.tell_names_of.Goals as goal
 
@@ -29,12 +30,12 @@ returns-in-Json-clause-told g c =
     let count = length c.names-names.result.now in
     let same : id ≡ patient.id = search rules in
     let counted : count ≡ length patient.names = search rules in
-    rw c.in-Json.is (on_ok_by c.print_names-in-Json.result
+    rw c.in-Json.is (on_ok_by c.print_names_json.result
     (λ (told : (shown : Data)
-    × TakesText g.O.Write c.args.out.now c.print_names-in-Json.new.out (json_line (names_json id count shown))).
+    × TakesText g.O.Write c.args.out.now c.print_names_json.new.out (json_line (names_json id count shown))).
     let line = json_line (names_json id count told.0) in
     let is : IsNames Json patient line = record {
       more = [];
       names = told.0;
       is = ap₂ (λ (id : List ℕ) (count : ℕ). json_line (names_json id count told.0)) same counted;
-    } in (line, is, told.1)) c.print_names-in-Json.ensures.told)
+    } in (line, is, told.1)) c.print_names_json.ensures.told)

@@ -3,7 +3,8 @@ use Rattle.std.proofs.Common.{◌≡◌, ◌∙◌, ◌<◌, [], ℕ, List, ap, 
 use Rattle.std.proofs.lemmas.List.{get_or-map}
 use Rattle.dd_line.specs.Line.{words_of}
 use Rattle.dicomdir.proofs.SaidLines.{said_more}
-use Rattle.dicomdir.specs.Said.{IsSkip, skip_line}
+use Rattle.dd_messages.specs.NoteLines.{skip_line}
+use Rattle.dicomdir.specs.Said.{IsSkip}
 use Rattle.dicomdir.proofs.note_lines.tell_skipped.Goals as goal
 
 pub loop-at-preserved : goal.loop-at-preserved

@@ -1,7 +1,8 @@
 -- One line more is printed.
 use Rattle.std.proofs.Common.{ℕ, List, ap, arith, subst}
 use Rattle.dicomdir.proofs.SaidLines.{said_more}
-use Rattle.dicomdir.specs.Said.{IsUnlisted, unlisted_line}
+use Rattle.dd_messages.specs.NoteLines.{unlisted_line}
+use Rattle.dicomdir.specs.Said.{IsUnlisted}
 use Rattle.dicomdir.proofs.set_note_lines.tell_unlisted.Goals as goal
 
 pub loop-instance-preserved : goal.loop-instance-preserved

@@ -4,7 +4,7 @@ use Rattle.std.proofs.lemmas.List.{get_or-map}
 use Rattle.std.specs.Prelude.{OnOk}
 use Rattle.dd_line.specs.Line.{words_of}
 use Rattle.dd_lines.specs.Text.{TakesText}
-use Rattle.dicomdir.specs.Said.{unreached_line}
+use Rattle.dd_messages.specs.NoteLines.{unreached_line}
 use Rattle.dicomdir.proofs.set_note_lines.tell_unreached_in.Goals as goal
 
 pub returns-clause-told : goal.returns-clause-told

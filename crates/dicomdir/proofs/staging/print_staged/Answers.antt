@@ -3,7 +3,7 @@ use Rattle.std.proofs.Common.{◌∙◌, ℕ, List, [], ◌∷◌, ap, ap₂, co
 use Rattle.std.specs.Fmt.{decimal}
 use Rattle.std.specs.Prelude.{OnOk}
 use Rattle.dd_lines.specs.Text.{TakesText}
-use Rattle.dicomdir.specs.Said.{said_line}
+use Rattle.dd_messages.specs.NoteLines.{said_line}
 use Rattle.dicomdir.proofs.staging.print_staged.Goals as goal
 
 -- the line of these numbers

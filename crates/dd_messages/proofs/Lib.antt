@@ -1,0 +1,5 @@
+mod CountLines
+mod FaultLines
+mod LeftOutParts
+pub mod NoteObjects
+pub mod OkAnswers

@@ -1,0 +1,4 @@
+pub mod Faults
+pub mod MaskedWords
+pub mod Mistakes
+pub mod Styles
