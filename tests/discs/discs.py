@@ -3,7 +3,11 @@
 
     discs.py number FILE COUNT OUT      makes COUNT images of one series, of one whose UID has nine characters
     discs.py show SET FORM all|files    gives a folder the names that a system shows: FORM is how it shows N
+    discs.py digest                     prints the File ID of each record that 'list --long --json' printed, and the
+                                        SHA-256 of the file at its path
 """
+import hashlib
+import json
 import pathlib
 import sys
 
@@ -37,5 +41,13 @@ def show(folder, form, which):
         path.rename(path.with_name(name + (form[1:] if which == "all" or path.is_file() else "")))
 
 
+def digest():
+    """Opens the path of each record that has a file."""
+    for line in map(json.loads, sys.stdin):
+        if "file" in line:
+            path = line["path"]
+            print(line["file"], path and hashlib.sha256(pathlib.Path(path).read_bytes()).hexdigest())
+
+
 if __name__ == "__main__":
-    {"number": number, "show": show}[sys.argv[1]](*sys.argv[2:])
+    {"number": number, "show": show, "digest": digest}[sys.argv[1]](*sys.argv[2:])

@@ -3,7 +3,8 @@
 
     json_lines.py words FILE             holds each line against docs/json-schema.json, and prints its words
     json_lines.py paths FILE PATH..      compares the paths that lines name, in their order, with these
-    json_lines.py elements FILE SET      compares the elements of each record with what pydicom reads of the DICOMDIR
+    json_lines.py elements FILE SET      compares the elements of each record with what pydicom reads of the DICOMDIR,
+                                         and its path with the file that is there
     json_lines.py samples FILE           tries the schema by the lines of a file, and these with changed members
 
 The words of a line are those that the program prints of the same without --json. The status is 1 where something is not
@@ -18,8 +19,10 @@ import warnings
 
 SCHEMA = pathlib.Path(__file__).resolve().parents[2] / "docs/json-schema.json"
 CONTROL = re.compile("[\0-\x1f\x7f-\x9f]")
+# Up to eight names with up to eight characters (PS3.10 section 8.2).
+FILE_ID = re.compile(r"[A-Z0-9_]{1,8}(\\[A-Z0-9_]{1,8}){0,7}")
 # Members that an object may lack.
-OPTIONAL = {("RECORD", "file"), ("RECORD", "elements"), ("PLAN", "image_bytes"), ("FAULT", "cause"), ("FAULT", "help")}
+OPTIONAL = {("RECORD", "file"), ("PLAN", "image_bytes"), ("FAULT", "cause"), ("FAULT", "help")}
 # What the value representations have whose texts may be other than ASCII, or have lines.
 BY_CHARACTER_SET = ("LO", "LT", "PN", "SH", "ST", "UC", "UT")
 WITH_LINES = ("LT", "ST", "UT")
@@ -325,6 +328,25 @@ def compare_file(where, line):
         wanted(line.get("file", "") == named, f"{where}: the file {named}")
 
 
+def shown_names(name):
+    """The names under which systems show a recorded one, in the order of the look-up."""
+    low, ends = name.lower(), (".;1", ";1", ".")
+    return [name, low, *(name + end for end in ends), *(low + end for end in ends)]
+
+
+def found_path(folder, file):
+    """The path of the file with this File ID in a folder, and None where none is there."""
+    place = pathlib.Path(folder)
+    if not FILE_ID.fullmatch(file):
+        return None
+    for name in file.split("\\"):
+        places = [place / one for one in shown_names(name)]
+        place = next((one for one in places if one.exists() and not one.is_symlink()), None)
+        if place is None:
+            return None
+    return str(place) if place.is_file() else None
+
+
 def records_of(path):
     """The records of a DICOMDIR by their offsets, of which pydicom has converted no value yet. Where it reads the file
     whole it has converted some."""
@@ -349,6 +371,8 @@ def compare_elements(path, folder):
         wanted(line["offset"] in records and "elements" in line, f"{where}: not there, or without elements")
         count += compare_sets(where, line["elements"], records[line["offset"]], "ascii")
         compare_file(where, line)
+        place = found_path(folder, line.get("file", ""))
+        wanted(line["path"] == place, f"{where}: the path {line['path']} and not {place}")
     print(f"pydicom: {count} elements of {len(listed)} records of {shown(pathlib.Path(folder).name)}, as in the list")
 
 

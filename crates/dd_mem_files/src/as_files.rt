@@ -1,8 +1,10 @@
 ghost use Rattle.std.specs.Prelude.{◌≡◌, ◌≢◌, ◌↔◌, ◌<◌, [], ◌∷◌, ◌++◌, Err, None, Some, IsErr, IsOk, IsSome, OnErr};
-ghost use Rattle.std.specs.Prelude.{IfSome, IsSomeAnd, IsTrue, OnOk, codes, false, length};
+ghost use Rattle.std.specs.Prelude.{IfOk, IfSome, IsSomeAnd, IsTrue, OnOk, codes, false, length, option_map};
+ghost use Rattle.std.specs.Prelude.{string_bytes};
 ghost use Rattle.dd_elem.specs.Device.{HasWorked, counted, last_count};
 ghost use Rattle.dd_files.specs.Calls.{Create, Link, Store};
 ghost use Rattle.dd_files.specs.Files.{end_of};
+ghost use Rattle.dd_files.specs.FoundPaths.{IsFoundAt};
 ghost use Rattle.dd_mem_files.specs.MemFiles.{LinksFile, MayCall, OpensOrRefuses, SetsFile, bytes_at, called, refused};
 ghost use Rattle.dd_mem_files.specs.MemFiles.{told_of};
 ghost use Rattle.dd_mem_files.specs.MemLaws.{held_grows, refusals_stay, told_contents};
@@ -10,7 +12,8 @@ ghost use Rattle.dd_mem_files.specs.MemLaws.{held_grows, refusals_stay, told_con
 use crate::calls::Call;
 use crate::mem_files::MemFiles;
 use crate::mem_reader::MemReader;
-use dd_files::{Cause, Files, Hints, LinkFault, NotDone, NotThere, Progress, Step};
+use dd_elem::Memory;
+use dd_files::{Cause, Files, FoundPaths, Hints, LinkFault, NotDone, NotThere, Progress, Step};
 use dd_slots::Lanes;
 
 impl Files for MemFiles {
@@ -248,6 +251,19 @@ impl Files for MemFiles {
     ghost same_contents = { told_contents };
 
     ghost written_grows = { held_grows };
+}
+
+/// Finds a file at the path that is recorded, where it has bytes.
+impl FoundPaths for MemFiles {
+    ghost is_shown = { λ _ path at. at ≡ path };
+
+    fn found_path(&mut self, _set: &str, path: &str) -> Result<Option<String>, Memory>
+        ensures found { IfOk result (λ found. IsFoundAt (λ at. at ≡ path.now) (told_of self.old) path.now
+            (option_map (λ at. string_bytes at) found)) }
+        ensures same { self.new ≡ self.old }
+    {
+        self.recorded_path(path)
+    }
 }
 
 /// Shows no progress.

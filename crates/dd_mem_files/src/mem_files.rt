@@ -1,6 +1,6 @@
 //! Files in memory.
 ghost use Rattle.std.specs.Prelude.{◌≡◌, ◌≢◌, ◌↔◌, [], ◌∷◌, ◌++◌, length, false, true, None, Some, Err, IsOk, IsSome};
-ghost use Rattle.std.specs.Prelude.{IfSome, IsSomeAnd, IsTrue, OnOk, OnErr, option_map, option_copied, string_bytes};
+ghost use Rattle.std.specs.Prelude.{IfOk, IfSome, IsSomeAnd, IsTrue, OnOk, OnErr, option_map, option_copied, string_bytes};
 ghost use Rattle.dd_elem.specs.Device.{counted};
 ghost use Rattle.dd_files.specs.Calls.{Create, Link};
 ghost use Rattle.dd_files.specs.Files.{end_of};
@@ -170,6 +170,17 @@ impl MemFiles {
         match self.files.get(path) {
             Some(bytes) => Some(bytes.as_slice()),
             None => None,
+        }
+    }
+
+    /// Gives a copy of the path, where its file has bytes. Memory where an allocation is refused.
+    pub(crate) fn recorded_path(&self, path: &str) -> Result<Option<String>, Memory>
+        ensures { IfOk result (λ found. option_map string_bytes found
+            ≡ option_map (λ _. path.now) (bytes_at self.now.files path.now)) }
+    {
+        match self.bytes(path) {
+            Some(_) => Ok(Some(String::from_str(self.alloc, path)?)),
+            None => Ok(None),
         }
     }
 

@@ -1,4 +1,3 @@
-//! The line that says why a run is refused.
 ghost use Rattle.std.specs.Prelude.{◌++◌, ℕ, List, None, Some};
 ghost use Rattle.dd_files.specs.Paths.{IsPathIn};
 ghost use Rattle.dd_messages.specs.FaultLines.{TellsFault, style_of};
@@ -22,9 +21,9 @@ pub enum RefusalForm<'a> {
 /// What the line of a refusal says besides a path, and how.
 #[derive(Clone, Copy)]
 pub struct FaultLine<'a> {
-    /// The words of the fault.
+    /// Those of the fault.
     pub words: &'a str,
-    /// How the line is printed.
+    /// In words or JSON.
     pub form: RefusalForm<'a>,
 }
 

@@ -1,7 +1,6 @@
-//! The lines that a command prints of its sources and of its work, in words or as JSON objects (RFC 8259): FAULT, SKIP,
-//! NOTE, PLAN and DONE. They go to a device without taking memory.
+//! The lines FAULT, SKIP, NOTE, PLAN and DONE, in words or as JSON objects (RFC 8259), printed without taking memory.
 //!
-//! What each line says stands at the function that prints it.
+//! What each says stands at its function.
 #![tactic(auto)]
 
 mod counts;

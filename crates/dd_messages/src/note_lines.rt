@@ -1,4 +1,3 @@
-//! What a command says of its sources and file-sets before it makes anything.
 ghost use Rattle.std.specs.Prelude.{◌≡◌, ◌++◌, List, ℕ, IsErr, IsOk, OnOk};
 ghost use Rattle.dd_elem.specs.Device.{HasFailed};
 ghost use Rattle.dd_lines.specs.Text.{TakesText};

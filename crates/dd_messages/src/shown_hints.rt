@@ -10,9 +10,9 @@ pub struct ShownHints {
     pub cause: Cause,
     /// What to do first: these words, the path, and the words after it.
     pub before: &'static str,
-    /// The path, which may be empty.
+    /// It may be empty.
     pub path: ShellPathText,
-    /// The words after the path.
+    /// Stands after it.
     pub after: &'static str,
 }
 

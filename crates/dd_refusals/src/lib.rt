@@ -1,6 +1,6 @@
-//! Says why a run is refused: the line FAULT or the parser's text, and hints for a person.
+//! Says why a run is refused: FAULT or the parser's text, and hints.
 //!
-//! Its promise stands at `tell_with_hints`.
+//! Its promise is on `tell_with_hints`.
 #![tactic(auto)]
 
 mod hints;

@@ -1,4 +1,3 @@
-//! The line that says why a run is refused.
 ghost use Rattle.std.specs.Prelude.{◌≡◌, ◌↔◌, ◌⊎◌, []};
 ghost use Rattle.dd_file_set.specs.Refusal.{IsBadLine};
 ghost use Rattle.dd_line.specs.Line.{words_of};
@@ -11,16 +10,16 @@ use dd_files::DIRECTORY;
 use dd_messages::{FaultLine, RefusalForm, print_fault, print_general, print_inside};
 use std::fmt::InlineText;
 
-/// The paths of a run, which a refusal may concern.
+/// The paths of a run.
 #[derive(Clone, Copy)]
 pub struct Paths<'a> {
-    /// The folder that it makes; empty where it makes none.
+    /// What it makes; may be empty.
     pub folder: &'a str,
     /// The sources, or the folders of the file-sets or piles that are read.
     pub sources: &'a [String],
-    /// The list of names; empty where there is none.
+    /// The list of names; may be empty.
     pub list: &'a str,
-    /// What the files say was not stored.
+    /// What was not stored.
     pub unstored: &'a str,
 }
 

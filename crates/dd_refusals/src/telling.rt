@@ -1,4 +1,3 @@
-//! What a person is told where a run is refused.
 ghost use Rattle.std.specs.Prelude.{◌≡◌, ◌↔◌, ◌⊎◌, false, true};
 ghost use Rattle.dd_file_set.specs.Refusal.{IsBadLine};
 ghost use Rattle.dd_line.specs.Line.{words_of};

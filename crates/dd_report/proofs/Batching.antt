@@ -33,8 +33,8 @@ use Rattle.dd_report.specs.declared.batch.Named.{Named}
 use Rattle.dd_report.specs.declared.findings.Expected.{Expected}
 use Rattle.dd_report.specs.declared.findings.Finding.{Finding}
 use Rattle.dd_report.specs.declared.batch.PendingFile.{PendingFile}
-use Rattle.dd_report.specs.declared.checking.CheckFault.{CheckFault}
-use Rattle.dd_report.specs.declared.checking.CheckFault.TheVariants.{Memory, Unsent}
+use Rattle.dd_report.specs.declared.checking.ReportFault.{ReportFault}
+use Rattle.dd_report.specs.declared.checking.ReportFault.TheVariants.{Memory, Unsent}
 use Rattle.dd_lines.specs.declared.line_buffer.LineBuffer.{LineBuffer}
 use Rattle.dd_lines.proofs.GoingOn.{fails_front, fails_next, goes_none, goes_then, one_more}
 
@@ -402,29 +402,29 @@ next_waits writer lines batch new next ready files found =
 
 -- ---- the answer of a check, once the files that wait are spoken of
 
-pub closes_unsent : {T : Type 0} (r : Result T CheckFault) (a : Report) (c : Way) → r ≡ Err Unsent
+pub closes_unsent : {T : Type 0} (r : Result T ReportFault) (a : Report) (c : Way) → r ≡ Err Unsent
     → c.holds ≡ a.course.holds → c.failures ≡ a.course.failures → Closes r (Err Unsent) a c
 closes_unsent r a c is holds failures =
-    subst (λ (x : Result _ CheckFault). Closes x (Err Unsent) a c) (sym is) (holds, failures)
+    subst (λ (x : Result _ ReportFault). Closes x (Err Unsent) a c) (sym is) (holds, failures)
 
-pub closes_failed : {T : Type 0} (r : Result T CheckFault) (a : Report) (c : Way) → r ≢ Err Unsent
+pub closes_failed : {T : Type 0} (r : Result T ReportFault) (a : Report) (c : Way) → r ≢ Err Unsent
     → Fails [] a.course c → Closes r (Err Unsent) a c
 closes_failed (Ok done) a c not failed = failed
 closes_failed (Err Memory) a c not failed = failed
 closes_failed (Err Unsent) a c not failed = absurd (not refl)
 
-pub closes_ok : {T : Type 0} (r : Result T CheckFault) (done : T) (found : Bool) (a b : Report) (c : Way) → r ≡ Ok done
+pub closes_ok : {T : Type 0} (r : Result T ReportFault) (done : T) (found : Bool) (a b : Report) (c : Way) → r ≡ Ok done
     → Grows [] a b → b.course ≡ c → b.found ≡ found → Closes r (Ok found) a c
 closes_ok r done found a b c is grows same some =
-    subst (λ (x : Result _ CheckFault). Closes x (Ok found) a c) (sym is) (
+    subst (λ (x : Result _ ReportFault). Closes x (Ok found) a c) (sym is) (
       subst (λ (w : Way). GoesOn [] a.course w) same grows.goes,
       sym some ∙ grows.found ∙ or_false a.found,
     )
 
-pub closes_err : {T : Type 0} (r : Result T CheckFault) (fault : CheckFault) (a b : Report) (c : Way) → r ≡ Err fault
+pub closes_err : {T : Type 0} (r : Result T ReportFault) (fault : ReportFault) (a b : Report) (c : Way) → r ≡ Err fault
     → r ≢ Err Unsent → Grows [] a b → b.course ≡ c → Closes r (Err fault) a c
 closes_err r Memory a b c is not grows same =
-    subst (λ (x : Result _ CheckFault). Closes x (Err Memory) a c) (sym is)
+    subst (λ (x : Result _ ReportFault). Closes x (Err Memory) a c) (sym is)
     (subst (λ (w : Way). GoesOn [] a.course w) same grows.goes)
 closes_err r Unsent a b c is not grows same = absurd (not is)
 

@@ -2,6 +2,8 @@ mod Agreeing
 mod Batching
 pub mod FirstPlaces
 mod FaultLines
+mod FoundLines
+mod FoundRows
 mod FoundValues
 mod HexDigits
 mod Judging

@@ -11,11 +11,11 @@ use Rattle.dd_walk.specs.Trees.{Walk, offsets}
 use Rattle.dd_dir.specs.Withdrawn.{withdrawn_of}
 use Rattle.dd_report.specs.declared.known.Form.{Form}
 use Rattle.dd_report.specs.declared.known.Form.TheVariants.{Long}
-use Rattle.dd_report.specs.Listing.{branch_lines, lines_in, lines_of, long_listing, record_line, set_line}
+use Rattle.dd_report.specs.Listing.{branch_lines, end_lines, lines_in, lines_of, long_listing, record_line, set_line}
 use Rattle.dd_report.specs.Listing.{totals_line, withdrawn_lines}
 use Rattle.dd_json.specs.declared.value.Style.{Style}
 use Rattle.dd_lines.specs.Telling.{Fails, GoesOn, Tells, Way}
-use Rattle.dd_lines.proofs.GoingOn.{fails_next, fails_front, one_more, tells_err, tells_then}
+use Rattle.dd_lines.proofs.GoingOn.{fails_front, one_more, tells_err, tells_then}
 
 -- ---- lines
 
@@ -28,7 +28,7 @@ lines_each style form level [] = refl
 lines_each style form level (t ∷ trees) =
     ap (λ (xs : List ℕ). tree_lines style form level t ++ xs) (lines_each style form level trees)
 
-below_is : (t : Tree) → (tree_view t).below ≡ trees_view (out-Tree t).below.items
+pub below_is : (t : Tree) → (tree_view t).below ≡ trees_view (out-Tree t).below.items
 below_is t = search (rules, the_lemmas)
 
 -- the line of a record, and then the lines of the records below it
@@ -58,33 +58,27 @@ branch_fails r style form level t a b err failed =
 
 -- ---- a directory
 
--- the lines of the records, the lines of what is withdrawn, and the last line
+-- the lines of the records, and then the last lines
 pub all_listed : {T E : Type 0} (r : Result T E) (style : Style) (form : Form) (forest : Forest) (trees : List Tree)
-    (a b c d : Way)
+    (a b c : Way)
     → trees ≡ forest.trees.items → GoesOn (lines_of style form 0 (trees_view trees)) a b
-    → GoesOn (withdrawn_lines style (withdrawn_of (walk_view forest))) b c
-    → Tells r (totals_line style (walk_view forest)) c d
-    → Tells r (lines_in style form (walk_view forest)) a d
-all_listed r style form forest trees a b c d is records withdrawn totals =
-    let lines = withdrawn_lines style (withdrawn_of (walk_view forest)) in
-    let last = totals_line style (walk_view forest) in
-    tells_then r (lines_of style form 0 (trees_view forest.trees.items)) (lines ++ last) a b d
-    (subst (λ (ts : List Tree). GoesOn (lines_of style form 0 (trees_view ts)) a b) is records)
-    (tells_then r lines last b c d withdrawn totals)
+    → Tells r (end_lines style (walk_view forest)) b c → Tells r (lines_in style form (walk_view forest)) a c
+all_listed r style form forest trees a b c is records last =
+    tells_then r (lines_of style form 0 (trees_view forest.trees.items)) (end_lines style (walk_view forest)) a b c
+    (subst (λ (ts : List Tree). GoesOn (lines_of style form 0 (trees_view ts)) a b) is records) last
 
--- the writer failed in the lines of what is withdrawn
-pub withdrawn_fails : {T E : Type 0} (r : Result T E) (style : Style) (form : Form) (forest : Forest)
-    (trees : List Tree) (a b c : Way)
-    → IsErr r → trees ≡ forest.trees.items → GoesOn (lines_of style form 0 (trees_view trees)) a b
-    → Fails (withdrawn_lines style (withdrawn_of (walk_view forest))) b c
-    → Tells r (lines_in style form (walk_view forest)) a c
-withdrawn_fails r style form forest trees a b c err is records failed =
-    let lines = withdrawn_lines style (withdrawn_of (walk_view forest)) in
-    let last = totals_line style (walk_view forest) in
-    tells_err r (lines_in style form (walk_view forest)) a c err
-    (fails_next (lines_of style form 0 (trees_view forest.trees.items)) (lines ++ last) a b c
-    (subst (λ (ts : List Tree). GoesOn (lines_of style form 0 (trees_view ts)) a b) is records)
-    (fails_front lines last b c failed))
+-- the lines of what is withdrawn, and then the last line
+pub end_listed : {T E : Type 0} (r : Result T E) (style : Style) (walk : Walk) (a b c : Way)
+    → GoesOn (withdrawn_lines style (withdrawn_of walk)) a b → Tells r (totals_line style walk) b c
+    → Tells r (end_lines style walk) a c
+end_listed r style walk a b c withdrawn totals =
+    tells_then r (withdrawn_lines style (withdrawn_of walk)) (totals_line style walk) a b c withdrawn totals
+
+pub withdrawn_fails : {T E : Type 0} (r : Result T E) (style : Style) (walk : Walk) (a b : Way) → IsErr r
+    → Fails (withdrawn_lines style (withdrawn_of walk)) a b → Tells r (end_lines style walk) a b
+withdrawn_fails r style walk a b err failed =
+    tells_err r (end_lines style walk) a b err
+    (fails_front (withdrawn_lines style (withdrawn_of walk)) (totals_line style walk) a b failed)
 
 -- the writer failed in the lines of the records
 pub records_fail : {T E : Type 0} (r : Result T E) (style : Style) (form : Form) (forest : Forest) (trees : List Tree)
@@ -92,9 +86,8 @@ pub records_fail : {T E : Type 0} (r : Result T E) (style : Style) (form : Form)
     → IsErr r → trees ≡ forest.trees.items → Fails (lines_of style form 0 (trees_view trees)) a b
     → Tells r (lines_in style form (walk_view forest)) a b
 records_fail r style form forest trees a b err is failed =
-    let rest = withdrawn_lines style (withdrawn_of (walk_view forest)) ++ totals_line style (walk_view forest) in
     tells_err r (lines_in style form (walk_view forest)) a b err
-    (fails_front (lines_of style form 0 (trees_view forest.trees.items)) rest a b
+    (fails_front (lines_of style form 0 (trees_view forest.trees.items)) (end_lines style (walk_view forest)) a b
     (subst (λ (ts : List Tree). Fails (lines_of style form 0 (trees_view ts)) a b) is failed))
 
 -- ---- what names the file-set

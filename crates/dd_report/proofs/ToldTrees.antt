@@ -24,8 +24,8 @@ use Rattle.dd_report.specs.Checking.{TellsSome, TellsWalk, end_line, file_line, 
 use Rattle.dd_report.specs.Checking.{most_read}
 use Rattle.dd_json.specs.declared.value.Style.{Style}
 use Rattle.dd_report.specs.declared.checking.Comparison.{Comparison}
-use Rattle.dd_report.specs.declared.checking.CheckFault.{CheckFault}
-use Rattle.dd_report.specs.declared.checking.CheckFault.TheVariants.{Memory, Unsent}
+use Rattle.dd_report.specs.declared.checking.ReportFault.{ReportFault}
+use Rattle.dd_report.specs.declared.checking.ReportFault.TheVariants.{Memory, Unsent}
 use Rattle.dd_report.specs.declared.findings.Finding.{Finding}
 use Rattle.dd_report.specs.declared.agreements.Inherited.{Inherited}
 use Rattle.dd_report.specs.Agreements.{IsInherited, Standing, branch_standings, found_in, standing_below}
@@ -180,10 +180,10 @@ module _ {R : Type 0} (readers : ReadOf R) (held : Option Held) (folder : List �
   abbrev First : List Standing → ℕ → ℕ → List ℕ → Type 0
   First = TellsFirst readers held folder comparison style
 
-  abbrev Checked : List Standing → Result Bool CheckFault → ℕ → ℕ → Way → Way → Type 0
+  abbrev Checked : List Standing → Result Bool ReportFault → ℕ → ℕ → Way → Way → Type 0
   Checked = Checks readers held folder comparison style
 
-  abbrev Reported : {T : Type 0} → List Standing → Result T CheckFault → ℕ → ℕ → Report → Report → Type 0
+  abbrev Reported : {T : Type 0} → List Standing → Result T ReportFault → ℕ → ℕ → Report → Report → Type 0
   Reported all r f g a b = Reports readers held folder comparison style all r f g a b
 
   -- the texts of both lists
@@ -272,7 +272,7 @@ module _ {R : Type 0} (readers : ReadOf R) (held : Option Held) (folder : List �
   )
 
   -- a fault in the next of them ends the check
-  ends_told : {T : Type 0} (xs ys zs all : List Standing) (fault : CheckFault) (done : T) (f g h : ℕ) (a b c : Report)
+  ends_told : {T : Type 0} (xs ys zs all : List Standing) (fault : ReportFault) (done : T) (f g h : ℕ) (a b c : Report)
       → all ≡ (xs ++ ys) ++ zs → Reported xs (Ok done) f g a b → Reported {T = T} ys (Err fault) g h b c
       → Reported {T = T} all (Err fault) f h a c
   ends_told xs ys zs all Memory done f g h a b c are first next =
@@ -293,11 +293,11 @@ module _ {R : Type 0} (readers : ReadOf R) (held : Option Held) (folder : List �
       )
 
   -- files that hold the same
-  abbrev ReportedOver : {T : Type 0} → Option Held → List Standing → Result T CheckFault → ℕ → ℕ → Report → Report
+  abbrev ReportedOver : {T : Type 0} → Option Held → List Standing → Result T ReportFault → ℕ → ℕ → Report → Report
       → Type 0
   ReportedOver mid all r f g a b = Reports readers mid folder comparison style all r f g a b
 
-  over : {T : Type 0} (mid : Option Held) (all : List Standing) (r : Result T CheckFault) (f g : ℕ) (a b : Report)
+  over : {T : Type 0} (mid : Option Held) (all : List Standing) (r : Result T ReportFault) (f g : ℕ) (a b : Report)
       → mid ≡ held → ReportedOver mid all r f g a b → Reported all r f g a b
   over mid all r f g a b same reports =
       subst (λ (h : Option Held). Reports readers h folder comparison style all r f g a b) same reports
@@ -323,17 +323,17 @@ module _ {R : Type 0} (readers : ReadOf R) (held : Option Held) (folder : List �
       (take_all i trees past) first
 
   pub trees_end : {T : Type 0} (above : List Node) (mid : Option Held) (trees : List Tree) (i : ℕ) (t : Tree)
-      (r one : Result T CheckFault) (fault : CheckFault) (so_far : T) (f g h : ℕ) (a b c : Report) → i < length trees
+      (r one : Result T ReportFault) (fault : ReportFault) (so_far : T) (f g h : ℕ) (a b c : Report) → i < length trees
       → t ≡ get_or trees i t → mid ≡ held → r ≡ Err fault → one ≡ Err fault
       → Reported (standings_below above (trees_view (take i trees))) (Ok so_far) f g a b
       → ReportedOver mid (tree_standings above t) one g h b c
       → Reported (standings_below above (trees_view trees)) r f h a c
   trees_end above mid trees i t r one fault so_far f g h a b c within is same ends was first next =
-      subst (λ (x : Result _ CheckFault). Reported (standings_below above (trees_view trees)) x f h a c) (sym ends)
+      subst (λ (x : Result _ ReportFault). Reported (standings_below above (trees_view trees)) x f h a c) (sym ends)
       (ends_told (standings_below above (trees_view (take i trees))) (tree_standings above t)
       (flat_map (tree_standings above) (drop (i + 1) trees)) (standings_below above (trees_view trees)) fault so_far
       f g h a b c (trees_parted above trees i t within is) first
-      (subst (λ (x : Result _ CheckFault). Reported (tree_standings above t) x g h b c) was
+      (subst (λ (x : Result _ ReportFault). Reported (tree_standings above t) x g h b c) was
       (over mid (tree_standings above t) one g h b c same next)))
 
   -- a record alone, and those below it
@@ -343,7 +343,7 @@ module _ {R : Type 0} (readers : ReadOf R) (held : Option Held) (folder : List �
   abbrev lower : List Node → Tree → Trees → List Standing
   lower above t trees = standings_below ((tree_view t).node ∷ above) trees
 
-  both_branches : {T : Type 0} (above : List Node) (t : Tree) (here : T) (r : Result T CheckFault) (f g h : ℕ)
+  both_branches : {T : Type 0} (above : List Node) (t : Tree) (here : T) (r : Result T ReportFault) (f g h : ℕ)
       (a b c : Report) → Reported (alone above t) (Ok here) f g a b
       → Reported (lower above t (tree_view t).below) r g h b c → Reported (tree_standings above t) r f h a c
   both_branches above t here (Ok done) f g h a b c first rest =
@@ -353,7 +353,7 @@ module _ {R : Type 0} (readers : ReadOf R) (held : Option Held) (folder : List �
       f g h a b c (sym (append-nil (tree_standings above t))) first rest
 
   pub branch_told : {T : Type 0} (above : List Node) (mid : Option Held) (t : Tree) (trees : List Tree) (here : T)
-      (r : Result T CheckFault) (f g h : ℕ) (a b c : Report) → mid ≡ held → trees ≡ (out-Tree t).below.items
+      (r : Result T ReportFault) (f g h : ℕ) (a b c : Report) → mid ≡ held → trees ≡ (out-Tree t).below.items
       → Reported (alone above t) (Ok here) f g a b
       → ReportedOver mid (lower above t (trees_view trees)) r g h b c
       → Reported (tree_standings above t) r f h a c
@@ -362,14 +362,14 @@ module _ {R : Type 0} (readers : ReadOf R) (held : Option Held) (folder : List �
       (subst (λ (ts : Trees). Reported (lower above t ts) r g h b c) (ap trees_view is ∙ sym (below_is t))
       (over mid (lower above t (trees_view trees)) r g h b c same rest))
 
-  pub record_ends : {T : Type 0} (done : T) (above : List Node) (t : Tree) (r one : Result T CheckFault)
-      (fault : CheckFault) (f g : ℕ) (a b : Report) → r ≡ Err fault → one ≡ Err fault
+  pub record_ends : {T : Type 0} (done : T) (above : List Node) (t : Tree) (r one : Result T ReportFault)
+      (fault : ReportFault) (f g : ℕ) (a b : Report) → r ≡ Err fault → one ≡ Err fault
       → Reported (alone above t) one f g a b → Reported (tree_standings above t) r f g a b
   record_ends done above t r one fault f g a b ends was first =
-      subst (λ (x : Result _ CheckFault). Reported (tree_standings above t) x f g a b) (sym ends)
+      subst (λ (x : Result _ ReportFault). Reported (tree_standings above t) x f g a b) (sym ends)
       (ends_told [] (alone above t) (lower above t (tree_view t).below) (tree_standings above t) fault done
       f f g a a b refl (none_told done f a)
-      (subst (λ (x : Result _ CheckFault). Reported (alone above t) x f g a b) was first))
+      (subst (λ (x : Result _ ReportFault). Reported (alone above t) x f g a b) was first))
 
   -- ---- all records
 
@@ -382,7 +382,7 @@ module _ {R : Type 0} (readers : ReadOf R) (held : Option Held) (folder : List �
       subst (λ (all : List ℕ). Fails all a c) (append-nil text) (fails_next text [] a b c first failed)
 
   -- once the files that wait are spoken of too
-  closed : {T : Type 0} (all : List Standing) (r : Result T CheckFault) (answer : Result Bool CheckFault) (f g : ℕ)
+  closed : {T : Type 0} (all : List Standing) (r : Result T ReportFault) (answer : Result Bool ReportFault) (f g : ℕ)
       (a b : Report) (c : Way) → a.found ≡ false → Reported all r f g a b → Closes r answer b c
       → Checked all answer f g a.course c
   closed all (Ok done) (Ok found) f g a b c none reports closes = (
@@ -414,7 +414,7 @@ module _ {R : Type 0} (readers : ReadOf R) (held : Option Held) (folder : List �
         (sym closes.1) reports.2),
   )
 
-  pub all_closed : {T : Type 0} (all : List Standing) (r : Result T CheckFault) (answer : Result Bool CheckFault)
+  pub all_closed : {T : Type 0} (all : List Standing) (r : Result T ReportFault) (answer : Result Bool ReportFault)
       (f g : ℕ) (a b : Report) (start c : Way) → a.found ≡ false → a.course ≡ start → Reported all r f g a b
       → Closes r answer b c → Checked all answer f g start c
   all_closed all r answer f g a b start c none is reports closes =
@@ -422,22 +422,22 @@ module _ {R : Type 0} (readers : ReadOf R) (held : Option Held) (folder : List �
 
   -- ---- a directory
 
-  abbrev CheckedAll : Walk → Result Bool CheckFault → ℕ → ℕ → Way → Way → Type 0
+  abbrev CheckedAll : Walk → Result Bool ReportFault → ℕ → ℕ → Way → Way → Type 0
   CheckedAll = ChecksAll readers held folder comparison style
 
   -- a fault in its trees is one of all
-  pub walk_ends : (forest : Forest) (trees : List Tree) (r one : Result Bool CheckFault) (fault : CheckFault) (f g : ℕ)
+  pub walk_ends : (forest : Forest) (trees : List Tree) (r one : Result Bool ReportFault) (fault : ReportFault) (f g : ℕ)
       (a b : Way) → trees ≡ forest.trees.items → r ≡ Err fault → one ≡ Err fault
       → Checked (standings_below [] (trees_view trees)) one f g a b → CheckedAll (walk_view forest) r f g a b
   walk_ends forest trees r one Memory f g a b is ends was checks =
       let same : Checked (standings_below [] (trees_view forest.trees.items)) (Err Memory) f g a b =
       subst (λ (ts : List Tree). Checked (standings_below [] (trees_view ts)) (Err Memory) f g a b) is
-      (subst (λ (x : Result Bool CheckFault). Checked (standings_below [] (trees_view trees)) x f g a b) was checks) in
+      (subst (λ (x : Result Bool ReportFault). Checked (standings_below [] (trees_view trees)) x f g a b) was checks) in
       rw ends same
   walk_ends forest trees r one Unsent f g a b is ends was checks =
       let same : Checked (standings_below [] (trees_view forest.trees.items)) (Err Unsent) f g a b =
       subst (λ (ts : List Tree). Checked (standings_below [] (trees_view ts)) (Err Unsent) f g a b) is
-      (subst (λ (x : Result Bool CheckFault). Checked (standings_below [] (trees_view trees)) x f g a b) was checks) in
+      (subst (λ (x : Result Bool ReportFault). Checked (standings_below [] (trees_view trees)) x f g a b) was checks) in
       rw ends (same.0, inl same.1, same.2)
 
   abbrev Walked : Forest → Bool → ℕ → ℕ → List ℕ → Type 0
@@ -484,7 +484,7 @@ module _ {R : Type 0} (readers : ReadOf R) (held : Option Held) (folder : List �
 
   -- ---- all that waits then goes, or the writer fails in it
 
-  pub walk_went : (walk : Walk) (r : Result Bool CheckFault) (f g : ℕ) (a b : Way) (c : Option (List ℕ)) (h : ℕ)
+  pub walk_went : (walk : Walk) (r : Result Bool ReportFault) (f g : ℕ) (a b : Way) (c : Option (List ℕ)) (h : ℕ)
       → a.waits ≡ [] → CheckedAll walk r f g a b → TakesAll b.holds c b.failures h b.waits
       → IfOk r (λ found. (text : List ℕ)
       × TellsWalk readers held folder comparison style walk found f g text
@@ -493,26 +493,26 @@ module _ {R : Type 0} (readers : ReadOf R) (held : Option Held) (folder : List �
       (checks.0, checks.1, all_goes checks.0 a b c h none checks.2 took)
   walk_went walk (Err fault) f g a b c h none checks took = tt
 
-  pub walk_cut : (walk : Walk) (r : Result Bool CheckFault) (f g : ℕ) (a b : Way) (c : Option (List ℕ)) (h : ℕ)
+  pub walk_cut : (walk : Walk) (r : Result Bool ReportFault) (f g : ℕ) (a b : Way) (c : Option (List ℕ)) (h : ℕ)
       → a.waits ≡ [] → CheckedAll walk r f g a b → TakesAll b.holds c b.failures h b.waits → r ≡ Err Memory
       → (text : List ℕ) × First (standings_below [] walk.trees) f g text × TakesAll a.holds c a.failures h text
   walk_cut walk r f g a b c h none checks took is =
       let cut : CheckedAll walk (Err Memory) f g a b =
-      subst (λ (x : Result Bool CheckFault). CheckedAll walk x f g a b) is checks in
+      subst (λ (x : Result Bool ReportFault). CheckedAll walk x f g a b) is checks in
       (cut.0, cut.1, all_goes cut.0 a b c h none cut.2 took)
 
   abbrev SomeTold : Walk → ℕ → ℕ → List ℕ → Type 0
   SomeTold = TellsSome readers held folder comparison style
 
-  pub walk_unsent : (walk : Walk) (r : Result Bool CheckFault) (f g : ℕ) (a b : Way) → a.waits ≡ [] → r ≡ Err Unsent
+  pub walk_unsent : (walk : Walk) (r : Result Bool ReportFault) (f g : ℕ) (a b : Way) → a.waits ≡ [] → r ≡ Err Unsent
       → CheckedAll walk r f g a b
       → (text : List ℕ) × SomeTold walk f g text × FailsAmid a.holds b.holds a.failures b.failures text
   walk_unsent walk r f g a b none is checks =
       let cut : CheckedAll walk (Err Unsent) f g a b =
-      subst (λ (x : Result Bool CheckFault). CheckedAll walk x f g a b) is checks in
+      subst (λ (x : Result Bool ReportFault). CheckedAll walk x f g a b) is checks in
       (cut.0, cut.1, fails_of_none cut.0 a b none cut.2)
 
-  pub rest_unsent : (walk : Walk) (r : Result Bool CheckFault) (f g : ℕ) (a b : Way) (c : Option (List ℕ)) (h : ℕ)
+  pub rest_unsent : (walk : Walk) (r : Result Bool ReportFault) (f g : ℕ) (a b : Way) (c : Option (List ℕ)) (h : ℕ)
       → a.waits ≡ [] → r ≢ Err Unsent → CheckedAll walk r f g a b → FailsAmid b.holds c b.failures h b.waits
       → (text : List ℕ) × SomeTold walk f g text × FailsAmid a.holds c a.failures h text
   rest_unsent walk (Ok found) f g a b c h none not checks failed =

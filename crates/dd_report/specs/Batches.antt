@@ -13,8 +13,8 @@ use Rattle.dd_report.specs.declared.batch.Batch.{Batch}
 use Rattle.dd_report.specs.declared.batch.Named.{Named}
 use Rattle.dd_report.specs.declared.findings.Expected.{Expected}
 use Rattle.dd_report.specs.declared.batch.PendingFile.{PendingFile}
-use Rattle.dd_report.specs.declared.checking.CheckFault.{CheckFault}
-use Rattle.dd_report.specs.declared.checking.CheckFault.TheVariants.{Memory, Unsent}
+use Rattle.dd_report.specs.declared.checking.ReportFault.{ReportFault}
+use Rattle.dd_report.specs.declared.checking.ReportFault.TheVariants.{Memory, Unsent}
 use Rattle.dd_report.specs.declared.checking.Comparison.{Comparison}
 use Rattle.dd_report.specs.declared.findings.Finding.{Finding}
 use Rattle.dd_report.specs.declared.findings.Judgement.{Judgement}
@@ -116,7 +116,7 @@ Adds (Err fault) text old new = Fails text old.course new.course
 -- the writer failed, it failed in what was to go.
 module _ {R : Type 0} (readers : ReadOf R) (held : Option Held) (folder : List ℕ) (comparison : Comparison)
     (style : Style) where
-  abbrev pub Reports : {T : Type 0} → List Standing → Result T CheckFault → ℕ → ℕ → Report → Report → Type 0
+  abbrev pub Reports : {T : Type 0} → List Standing → Result T ReportFault → ℕ → ℕ → Report → Report → Type 0
   Reports all (Ok done) old new from to =
       (text : List ℕ) × TellsAll readers held folder comparison style all old new text × Grows text from to
   Reports all (Err Memory) old new from to =
@@ -128,7 +128,7 @@ module _ {R : Type 0} (readers : ReadOf R) (held : Option Held) (folder : List �
 -- The answer of a check and the way of its lines, once the files that wait are spoken of too; `checked` was the answer
 -- before that.
 -- Where the writer had failed, nothing more is said.
-abbrev pub Closes : {T : Type 0} → Result T CheckFault → Result Bool CheckFault → Report → Way → Type 0
+abbrev pub Closes : {T : Type 0} → Result T ReportFault → Result Bool ReportFault → Report → Way → Type 0
 Closes (Ok done) (Ok found) from to = GoesOn [] from.course to × (found ≡ from.found)
 Closes (Ok done) (Err Memory) from to = ⊥
 Closes (Ok done) (Err Unsent) from to = Fails [] from.course to

@@ -11,8 +11,8 @@ use Rattle.dd_elem.specs.FileIdForm.{IsFileId}
 use Rattle.dd_elem.specs.Tag.{text_of}
 use Rattle.dd_version.specs.Fitting.{is_empty}
 use Rattle.dd_walk.specs.Trees.{Node, Walk}
-use Rattle.dd_report.specs.declared.checking.CheckFault.{CheckFault}
-use Rattle.dd_report.specs.declared.checking.CheckFault.TheVariants.{Memory, Unsent}
+use Rattle.dd_report.specs.declared.checking.ReportFault.{ReportFault}
+use Rattle.dd_report.specs.declared.checking.ReportFault.TheVariants.{Memory, Unsent}
 use Rattle.dd_report.specs.declared.checking.Comparison.{Comparison}
 use Rattle.dd_report.specs.declared.findings.Finding.{Finding}
 use Rattle.dd_report.specs.declared.findings.Finding.TheVariants.{BadId, Differs, Mislabelled, Missing, NoDigest}
@@ -139,14 +139,14 @@ module _ {R : Type 0} (readers : ReadOf R) (held : Option Held) (folder : List �
 
   -- What it says of these records went on its way, and the answer says whether something was found. Where memory ran
   -- out it speaks of the first of them, and where the writer failed, it failed in what was to go.
-  abbrev pub Checks : List Standing → Result Bool CheckFault → ℕ → ℕ → Way → Way → Type 0
+  abbrev pub Checks : List Standing → Result Bool ReportFault → ℕ → ℕ → Way → Way → Type 0
   Checks all (Ok found) old new from to =
       (text : List ℕ) × TellsAll all old new text × (found ≡ not (is_empty text)) × GoesOn text from to
   Checks all (Err Memory) old new from to = (text : List ℕ) × TellsFirst all old new text × GoesOn text from to
   Checks all (Err Unsent) old new from to = (text : List ℕ) × TellsFirst all old new text × Fails text from to
 
   -- the same of a directory
-  abbrev pub ChecksAll : Walk → Result Bool CheckFault → ℕ → ℕ → Way → Way → Type 0
+  abbrev pub ChecksAll : Walk → Result Bool ReportFault → ℕ → ℕ → Way → Way → Type 0
   ChecksAll walk (Ok found) old new from to =
       (text : List ℕ) × TellsWalk walk found old new text × GoesOn text from to
   ChecksAll walk (Err Memory) old new from to =

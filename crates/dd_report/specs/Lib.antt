@@ -3,6 +3,7 @@ pub mod Batches
 pub mod Checking
 pub mod Finding
 pub mod FindingJson
+pub mod FoundRecords
 pub mod Listing
 pub mod MemberTexts
 pub mod Words

@@ -146,9 +146,12 @@ totals_line Text walk = shown_line (
     decimal (record_count walk.trees) ∷ codes " records, " ∷ decimal walk.unreached ∷ codes " unreached" ∷ [])
 totals_line Json walk = json_line (totals_json (record_count walk.trees) walk.unreached)
 
+-- the lines after those of the records
+abbrev pub end_lines : Style → Walk → List ℕ
+end_lines style walk = withdrawn_lines style (withdrawn_of walk) ++ totals_line style walk
+
 abbrev pub lines_in : Style → Form → Walk → List ℕ
-lines_in style form walk =
-    lines_of style form 0 walk.trees ++ (withdrawn_lines style (withdrawn_of walk) ++ totals_line style walk)
+lines_in style form walk = lines_of style form 0 walk.trees ++ end_lines style walk
 
 -- the short listing in words
 abbrev pub listing_text : Walk → List ℕ

@@ -27,9 +27,9 @@ use dd_walk::{Forest, Tree};
 use std::alloc::Global;
 use std::fmt;
 
-/// Says why a check ended early.
+/// Says why a check or a listing ended early.
 #[derive(Clone, Copy, Debug, PartialEq, Eq)]
-pub enum CheckFault {
+pub enum ReportFault {
     /// An allocation was refused.
     Memory,
     /// The output failed.
@@ -75,20 +75,20 @@ pub fn check_records<F: Files + Progress, W: Write>(
     forest: &Forest<'_>,
     files: &mut F,
     to: &mut W,
-) -> Result<bool, CheckFault>
+) -> Result<bool, ReportFault>
     ensures told { IfOk result (λ found. (text : List ℕ)
         × TellsWalk F.In.Read (F.held files.old)
         check.entry.folder.now check.entry.comparison check.entry.style
         (walk_view forest.now) found (F.refusals files.old) (F.refusals files.new) text
         × TakesText W.Write to.old to.new text) }
 
-    ensures cut { result ≡ Err CheckFault.Memory → (text : List ℕ)
+    ensures cut { result ≡ Err ReportFault.Memory → (text : List ℕ)
         × TellsFirst F.In.Read (F.held files.old)
         check.entry.folder.now check.entry.comparison check.entry.style
         (standings_below [] (walk_view forest.now).trees)
         (F.refusals files.old) (F.refusals files.new) text
         × TakesText W.Write to.old to.new text }
-    ensures unsent { result ≡ Err CheckFault.Unsent → (text : List ℕ)
+    ensures unsent { result ≡ Err ReportFault.Unsent → (text : List ℕ)
         × TellsSome F.In.Read (F.held files.old)
         check.entry.folder.now check.entry.comparison check.entry.style
         (walk_view forest.now) (F.refusals files.old) (F.refusals files.new) text
@@ -99,18 +99,18 @@ pub fn check_records<F: Files + Progress, W: Write>(
     let mut lines = LineBuffer::new(to);
     let checked = check_forest(check, forest, files, &mut lines);
     if is_unsent(&checked) {
-        return Err(CheckFault::Unsent);
+        return Err(ReportFault::Unsent);
     }
     match lines.flush() {
         Ok(()) => checked,
-        Err(_) => Err(CheckFault::Unsent),
+        Err(_) => Err(ReportFault::Unsent),
     }
 }
 
-fn is_unsent<T>(checked: &Result<T, CheckFault>) -> bool
-    ensures { IsTrue result ↔ (checked.now ≡ Err CheckFault.Unsent) }
+fn is_unsent<T>(checked: &Result<T, ReportFault>) -> bool
+    ensures { IsTrue result ↔ (checked.now ≡ Err ReportFault.Unsent) }
 {
-    matches!(checked, Err(CheckFault::Unsent))
+    matches!(checked, Err(ReportFault::Unsent))
 }
 
 fn check_forest<F: Files + Progress, W: Write>(
@@ -118,7 +118,7 @@ fn check_forest<F: Files + Progress, W: Write>(
     forest: &Forest<'_>,
     files: &mut F,
     lines: &mut LineBuffer<'_, W>,
-) -> Result<bool, CheckFault>
+) -> Result<bool, ReportFault>
     ensures same { lines.new.to.ghost_name ≡ lines.old.to.ghost_name }
     ensures checks { ChecksAll F.In.Read (F.held files.old)
         check.entry.folder.now check.entry.comparison check.entry.style
@@ -129,7 +129,7 @@ fn check_forest<F: Files + Progress, W: Write>(
     let found = check_counted(check, &forest.trees, files, lines)?;
     match tell_end(forest, found, check.style, lines) {
         Ok(()) => Ok(found || forest.unreached > 0),
-        Err(_) => Err(CheckFault::Unsent),
+        Err(_) => Err(ReportFault::Unsent),
     }
 }
 
@@ -139,7 +139,7 @@ fn check_counted<F: Files + Progress, W: Write>(
     trees: &[Tree<'_>],
     files: &mut F,
     lines: &mut LineBuffer<'_, W>,
-) -> Result<bool, CheckFault>
+) -> Result<bool, ReportFault>
     ensures same { lines.new.to.ghost_name ≡ lines.old.to.ghost_name }
     ensures checks { Checks F.In.Read (F.held files.old)
         check.entry.folder.now check.entry.comparison check.entry.style
@@ -163,11 +163,11 @@ fn check_counted<F: Files + Progress, W: Write>(
 /// Prints what is found of the files that still wait, unless the output failed before. Answers whether anything is
 /// found of all files.
 fn found_at_end<F: Files + Progress, W: Write>(
-    checked: Result<(), CheckFault>,
+    checked: Result<(), ReportFault>,
     files: &mut F,
     lines: &mut LineBuffer<'_, W>,
     batch: &mut Batch<'_>,
-) -> Result<bool, CheckFault>
+) -> Result<bool, ReportFault>
     requires { IsReady batch.old }
     ensures same { lines.new.to.ghost_name ≡ lines.old.to.ghost_name }
     ensures found { Closes checked result (report_of W.Write lines.old batch.old)
@@ -176,10 +176,10 @@ fn found_at_end<F: Files + Progress, W: Write>(
     ensures refusals { F.refusals files.new ≡ F.refusals files.old }
 {
     if is_unsent(&checked) {
-        return Err(CheckFault::Unsent);
+        return Err(ReportFault::Unsent);
     }
     let Ok(()) = batch.settle(files, lines) else {
-        return Err(CheckFault::Unsent);
+        return Err(ReportFault::Unsent);
     };
     match checked {
         Ok(()) => Ok(batch.found),
@@ -216,7 +216,7 @@ fn check_trees<'t, F: Files + Progress, W: Write>(
     files: &mut F,
     lines: &mut LineBuffer<'_, W>,
     batch: &mut Batch<'t>,
-) -> Result<(), CheckFault>
+) -> Result<(), ReportFault>
     requires { IsReady batch.old }
     ensures same { lines.new.to.ghost_name ≡ lines.old.to.ghost_name }
     ensures ready { IsReady batch.new }
@@ -241,7 +241,7 @@ fn check_tree<'t, F: Files + Progress, W: Write>(
     files: &mut F,
     lines: &mut LineBuffer<'_, W>,
     batch: &mut Batch<'t>,
-) -> Result<(), CheckFault>
+) -> Result<(), ReportFault>
     requires { IsReady batch.old }
     ensures same { lines.new.to.ghost_name ≡ lines.old.to.ghost_name }
     ensures ready { IsReady batch.new }
@@ -269,7 +269,7 @@ fn check_record<'t, F: Files + Progress, W: Write>(
     files: &mut F,
     lines: &mut LineBuffer<'_, W>,
     batch: &mut Batch<'t>,
-) -> Result<(), CheckFault>
+) -> Result<(), ReportFault>
     requires { IsReady batch.old }
     ensures same { lines.new.to.ghost_name ≡ lines.old.to.ghost_name }
     ensures ready { IsReady batch.new }
@@ -283,7 +283,7 @@ fn check_record<'t, F: Files + Progress, W: Write>(
     ensures kept { F.held files.new ≡ F.held files.old }
 {
     let Ok(judgement) = judge(at.check, tree, at.inherited, files, batch) else {
-        return Err(CheckFault::Memory);
+        return Err(ReportFault::Memory);
     };
     files.advance();
     let named = Named {
@@ -293,7 +293,7 @@ fn check_record<'t, F: Files + Progress, W: Write>(
     };
     match tell_judgement(named, judgement, files, lines, batch) {
         Ok(()) => Ok(()),
-        Err(_) => Err(CheckFault::Unsent),
+        Err(_) => Err(ReportFault::Unsent),
     }
 }
 

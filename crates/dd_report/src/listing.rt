@@ -6,7 +6,7 @@ ghost use Rattle.dd_keys.specs.Values.{value_at};
 ghost use Rattle.dd_set.specs.Views.{set_view};
 ghost use Rattle.dd_walk.specs.ForestViews.{tree_view, trees_view, walk_view};
 ghost use Rattle.dd_dir.specs.Withdrawn.{pieces_in, pieces_of};
-ghost use Rattle.dd_report.specs.Listing.{branch_lines, flag_of, label_of, label_tag, lines_in, lines_of};
+ghost use Rattle.dd_report.specs.Listing.{branch_lines, end_lines, flag_of, label_of, label_tag, lines_in, lines_of};
 ghost use Rattle.dd_report.specs.Listing.{listing, long_listing, or_dash, record_count, record_line, record_parts};
 ghost use Rattle.dd_report.specs.Listing.{set_line, set_parts, spaced, totals_line, withdrawn_line, withdrawn_lines};
 ghost use Rattle.dd_lines.specs.Telling.{Tells, shown, shown_line, way_of};
@@ -76,7 +76,7 @@ fn list_set<W: Write>(
     list_forest(forest, Form::Long, style, lines)
 }
 
-fn list_names<W: Write>(
+pub(crate) fn list_names<W: Write>(
     forest: &Forest<'_>,
     style: Style,
     lines: &mut LineBuffer<'_, W>,
@@ -110,6 +110,19 @@ fn list_forest<W: Write>(
         (way_of W.Write lines.old) (way_of W.Write lines.new) }
 {
     list_trees(&forest.trees, 0, form, style, lines)?;
+    list_end(forest, style, lines)
+}
+
+/// Lists what comes after the records.
+pub(crate) fn list_end<W: Write>(
+    forest: &Forest<'_>,
+    style: Style,
+    lines: &mut LineBuffer<'_, W>,
+) -> fmt::Result
+    ensures same { lines.new.to.ghost_name ≡ lines.old.to.ghost_name }
+    ensures written { Tells result (end_lines style (walk_view forest.now))
+        (way_of W.Write lines.old) (way_of W.Write lines.new) }
+{
     list_withdrawn(forest.withdrawn, style, lines)?;
     list_totals(forest, style, lines)
 }

@@ -2,6 +2,7 @@
 ghost use Rattle.std.specs.Prelude.{◌≡◌, ◌∷◌, [], codes};
 ghost use Rattle.dd_set.specs.Views.{set_view};
 ghost use Rattle.dd_walk.specs.ForestViews.{tree_view};
+ghost use Rattle.dd_report.specs.FoundRecords.{found_line, found_row, path_data};
 ghost use Rattle.dd_report.specs.Listing.{elements_in, members_with, record_json, record_members, set_json};
 ghost use Rattle.dd_report.specs.Listing.{totals_json, withdrawn_json};
 ghost use Rattle.dd_report.specs.MemberTexts.{back_text, front_text, member_text, more_text, open_text};
@@ -11,6 +12,7 @@ ghost use Rattle.dd_json.specs.Values.{json_line, members_view, printed, value_o
 ghost use Rattle.dd_lines.specs.Telling.{Tells, way_of};
 
 use crate::findings::{file_in, value_in};
+use crate::found_records::FoundRecord;
 use crate::known::Form;
 use crate::listing::label_tag;
 use dd_dicom_json::{CharacterSet, add_elements};
@@ -154,6 +156,31 @@ fn add_set_member<W: Write>(set: &DataSet<'_>, lines: &mut LineBuffer<'_, W>) ->
     add_raw(",\"elements\":", lines)?;
     add_elements(set, CharacterSet::Ascii, lines)?;
     add_raw("}\n", lines)
+}
+
+/// Adds the object of a record in the long form, with the path of its file before the data set.
+pub(crate) fn add_found_record<W: Write>(
+    found: &FoundRecord<'_, '_>,
+    lines: &mut LineBuffer<'_, W>,
+) -> fmt::Result
+    ensures same { lines.new.to.ghost_name ≡ lines.old.to.ghost_name }
+    ensures written { Tells result (found_line (found_row found.now))
+        (way_of W.Write lines.old) (way_of W.Write lines.new) }
+{
+    add_front(found.tree, found.level, lines)?;
+    add_path(found, lines)?;
+    add_set_member(&found.tree.set, lines)
+}
+
+fn add_path<W: Write>(found: &FoundRecord<'_, '_>, lines: &mut LineBuffer<'_, W>) -> fmt::Result
+    ensures same { lines.new.to.ghost_name ≡ lines.old.to.ghost_name }
+    ensures written { Tells result (member_text (codes "path") (path_data (found_row found.now).path))
+        (way_of W.Write lines.old) (way_of W.Write lines.new) }
+{
+    match &found.path {
+        Some(path) => add_member("path", &Json::Text(path.as_str()), lines),
+        None => add_member("path", &Json::Null, lines),
+    }
 }
 
 /// Adds the object of a piece of the value that names the withdrawn UIDs.

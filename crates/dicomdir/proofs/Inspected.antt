@@ -1,4 +1,4 @@
--- What a check of a file-set has printed, by its answer.
+-- What a check or a listing of a file-set has printed, by its answer.
 use Rattle.std.proofs.Common.{◌≡◌, ◌⊎◌, ℕ, Bool, true, false, List, Option, inl, inr, refl, subst}
 use Rattle.dd_walk.specs.declared.fault.DirFault.{DirFault}
 use Rattle.dd_walk.specs.ReadAnswers.{SaysMemory}
@@ -11,7 +11,9 @@ use Rattle.dd_json.specs.declared.value.Style.{Style}
 use Rattle.dd_report.specs.Checking.{TellsSome, TellsWalk}
 use Rattle.dd_lines.specs.Text.{FailsInText, TakesText}
 use Rattle.dd_report.specs.declared.checking.Comparison.{Comparison}
-use Rattle.dicomdir.specs.Inspecting.{ChecksSet, IsBroken, IsBrokenLine, SaysWalk, TellsBroken}
+use Rattle.dd_report.specs.declared.known.Form.{Form}
+use Rattle.dd_report.specs.FoundRecords.{IsListing}
+use Rattle.dicomdir.specs.Inspecting.{ChecksSet, IsBroken, IsBrokenLine, ListsSet, SaysWalk, TellsBroken}
 use Rattle.dicomdir.specs.Merges.{HasDirectory}
 
 module _ {R W : Type 0} (readers : ReadOf R) (writer : WriteOf W) (folder bytes : List ℕ) (files : Option Held)
@@ -69,3 +71,29 @@ module _ {R W : Type 0} (readers : ReadOf R) (writer : WriteOf W) (folder bytes 
   check_broken fault status refused none (inr three) printed failed =
       let (text, line, took) = printed three in
       (text, inl (inr (three, inr (tells_broken fault refused none text line)), took))
+
+-- what a listing has printed
+module _ {W : Type 0} (writer : WriteOf W) (IsShown : List ℕ → List ℕ → List ℕ → Type 0) (folder bytes : List ℕ)
+    (files : Option Held) (style : Style) (form : Form) (old new : W) (directory : HasDirectory folder bytes files) where
+  pub listed : (walk : Walk) → IsWalk bytes walk → (text : List ℕ)
+      × IsListing IsShown files folder style form walk text × TakesText writer old new text
+      → ListsSet writer IsShown style form folder files 0 old new
+  listed walk is (text, lists, took) = record {
+    walk = walk;
+    says = record { bytes = bytes; directory = directory; says = is };
+    text = text;
+    lists = lists;
+    printed = inl (refl, took);
+  }
+
+  -- the output failed
+  pub list_unsent : (walk : Walk) → IsWalk bytes walk → (text : List ℕ)
+      × IsListing IsShown files folder style form walk text × FailsInText writer old new text
+      → ListsSet writer IsShown style form folder files 1 old new
+  list_unsent walk is (text, lists, failed) = record {
+    walk = walk;
+    says = record { bytes = bytes; directory = directory; says = is };
+    text = text;
+    lists = lists;
+    printed = inr (refl, failed);
+  }

@@ -26,11 +26,11 @@ one_path : (r : Request) (command : Text) (given : List Row) (set : Text) → Re
 one_path r command given set h only =
     ap (λ (paths : List Text). slice_index_or paths 0 []) (sym only ∙ (says_parts r command given h).paths)
 
-module _ {R W : Type 0} (readers : ReadOf R) (writer : WriteOf W) (files : Option Held) (status before after : ℕ)
+module _ {R W : Type 0} (readers : ReadOf R) (writer : WriteOf W) (shows : List ℕ → List ℕ → List ℕ → Type 0) (files : Option Held) (status before after : ℕ)
     (old new : W) where
   pub requested_lists : (r : Request) (found : Option (Text × List Row)) → IsRequested r found → IsList found
-      → PrintsRequested readers writer r files status before after old new
-      → ListsSet writer (style_in found) (form_in found) (first_path found) files status old new
+      → PrintsRequested readers writer shows r files status before after old new
+      → ListsSet writer shows (style_in found) (form_in found) (first_path found) files status old new
   requested_lists r None h is printed = absurd h
   requested_lists (ToIndex x) (Some (command, given)) h is printed =
       absurd (true≢false (ap (λ (name : Text). bytes_eq name (codes "index")) (h.verb ∙ is)))
@@ -45,15 +45,15 @@ module _ {R W : Type 0} (readers : ReadOf R) (writer : WriteOf W) (files : Optio
   requested_lists (ToCheck x) (Some (command, given)) h is printed =
       absurd (true≢false (ap (λ (name : Text). bytes_eq name (codes "check")) (h.verb ∙ is)))
   requested_lists (ToList x) (Some (command, given)) h is printed =
-      subst (λ (style : Style). ListsSet writer style (form_in (Some (command, given)))
+      subst (λ (style : Style). ListsSet writer shows style (form_in (Some (command, given)))
       (first_path (Some (command, given))) files status old new) (ap style_by h.values.json)
-      (subst (λ (form : Form). ListsSet writer (style_by x.json) form (first_path (Some (command, given))) files status
+      (subst (λ (form : Form). ListsSet writer shows (style_by x.json) form (first_path (Some (command, given))) files status
       old new) (ap form_by h.values.long)
-      (subst (λ (folder : List ℕ). ListsSet writer (style_by x.json) (form_by x.long) folder files status old new)
+      (subst (λ (folder : List ℕ). ListsSet writer shows (style_by x.json) (form_by x.long) folder files status old new)
       (one_path (ToList x) command given _ h refl) printed))
 
   pub requested_checks : (r : Request) (found : Option (Text × List Row)) → IsRequested r found → IsCheck found
-      → PrintsRequested readers writer r files status before after old new
+      → PrintsRequested readers writer shows r files status before after old new
       → ChecksSet readers (first_path found) files (comparison_in found) (style_in found) writer status before after
       old new
   requested_checks r None h is printed = absurd h

@@ -1,13 +1,13 @@
 -- Lines that were printed one after the other.
 use Rattle.std.proofs.Common.{◌≡◌, ◌∙◌, ℕ, List, [], ◌∷◌, ◌++◌, ◌+◌, ◌<◌, ap, append-nil, append_assoc, get_or}
-use Rattle.std.proofs.Common.{codes, length, refl, subst, sym, take}
+use Rattle.std.proofs.Common.{length, refl, subst, sym, take}
 use Rattle.std.proofs.KnownBytes.{Appends-nil, Appends-trans}
 use Rattle.std.proofs.lemmas.List.{take_more}
 use Rattle.std.specs.Prelude.{IsOk, OnOk, Result, Ok, Err}
 use Rattle.dd_engine.specs.declared.noted_index.NotedIndex.{NotedIndex}
 use Rattle.dd_engine.specs.declared.noted_merge.NotedMerge.{NotedMerge}
 use Rattle.dd_elem.specs.declared.device.Write.{Ghosts as WriteOf}
-use Rattle.dd_lines.specs.Text.{TakesText, masked}
+use Rattle.dd_lines.specs.Text.{TakesText}
 use Rattle.dd_json.specs.declared.value.Style.{Style}
 use Rattle.dicomdir.specs.Said.{AreLines, IsLeftOut, IsNames, IsSkip, IsUnlisted, IsUnreached, SaysNotes, SaysSetNotes}
 use Rattle.dicomdir.specs.Said.{ShowsMember}

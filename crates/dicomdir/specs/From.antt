@@ -1,5 +1,5 @@
 -- Paths that are looked up in a folder.
-use Rattle.std.specs.Prelude.{◌-◌, ◌==◌, ◌++◌, [], ◌∷◌, Bool, false, Option, String, codes, if◌then◌else◌, length}
+use Rattle.std.specs.Prelude.{◌-◌, ◌==◌, ◌++◌, ℕ, List, [], ◌∷◌, Bool, false, Option, String, codes, if◌then◌else◌, length}
 use Rattle.std.specs.Prelude.{drop, string_bytes}
 use Rattle.std.specs.Option.{option_map_or}
 use Rattle.std.specs.Str.{bytes_eq}

@@ -21,7 +21,7 @@ use Rattle.dd_line.specs.declared.request.Request.TheVariants.{Index as ToIndex,
 use Rattle.dd_line.specs.declared.request.Request.TheVariants.{Stage as ToStage, Publish as ToPublish}
 use Rattle.dd_line.specs.declared.request.Request.TheVariants.{Check as ToCheck, List as ToList}
 use Rattle.dd_report.specs.Checking.{TellsSome, TellsWalk}
-use Rattle.dd_report.specs.Listing.{listing}
+use Rattle.dd_report.specs.FoundRecords.{IsListing}
 use Rattle.dd_lines.specs.Text.{FailsInText, TakesText, masked}
 use Rattle.dd_report.specs.declared.checking.Comparison.{Comparison}
 use Rattle.dd_report.specs.declared.known.Form.{Form}
@@ -51,13 +51,15 @@ abbrev pub form_by : Bool → Form
 form_by true = Long
 form_by false = Short
 
--- With 0 the listing of what the directory says was printed. Any other status is 1, and the output failed in the listing.
-pub record ListsSet {W : Type 0} (writer : WriteOf W) (style : Style) (form : Form) (folder : List ℕ)
-    (files : Option Held) (status : ℕ) (old new : W) : Type 0 where
+-- With 0 the listing of what the directory says was printed, where files may be shown so. Any other status is 1, and the
+-- output failed in the listing.
+pub record ListsSet {W : Type 0} (writer : WriteOf W) (IsShown : List ℕ → List ℕ → List ℕ → Type 0) (style : Style)
+    (form : Form) (folder : List ℕ) (files : Option Held) (status : ℕ) (old new : W) : Type 0 where
   pub walk : Walk
   pub says : SaysWalk folder files walk
-  pub printed : ((status ≡ 0) × TakesText writer old new (listing style form walk))
-      ⊎ ((status ≡ 1) × FailsInText writer old new (listing style form walk))
+  pub text : List ℕ
+  pub lists : IsListing IsShown files folder style form walk text
+  pub printed : ((status ≡ 0) × TakesText writer old new text) ⊎ ((status ≡ 1) × FailsInText writer old new text)
 
 -- ---- `check`
 
@@ -134,14 +136,14 @@ comparison_in None = comparison_by false false
 comparison_in (Some (command, given)) = comparison_by (is_given keys_name given) (is_given strict_name given)
 
 -- what a request to list or to check has printed, where it ended with this status
-abbrev pub PrintsRequested : {R W : Type 0} → ReadOf R → WriteOf W → Request → Option Held → ℕ → ℕ → ℕ → W → W → Type 0
-PrintsRequested readers writer (ToIndex x) files status old new from to = Unit {0}
-PrintsRequested readers writer (ToMerge x) files status old new from to = Unit {0}
-PrintsRequested readers writer (ToWithdraw x) files status old new from to = Unit {0}
-PrintsRequested readers writer (ToStage x) files status old new from to = Unit {0}
-PrintsRequested readers writer (ToPublish x) files status old new from to = Unit {0}
-PrintsRequested readers writer (ToCheck x) files status old new from to =
+abbrev pub PrintsRequested : {R W : Type 0} → ReadOf R → WriteOf W → (List ℕ → List ℕ → List ℕ → Type 0) → Request → Option Held → ℕ → ℕ → ℕ → W → W → Type 0
+PrintsRequested readers writer shows (ToIndex x) files status old new from to = Unit {0}
+PrintsRequested readers writer shows (ToMerge x) files status old new from to = Unit {0}
+PrintsRequested readers writer shows (ToWithdraw x) files status old new from to = Unit {0}
+PrintsRequested readers writer shows (ToStage x) files status old new from to = Unit {0}
+PrintsRequested readers writer shows (ToPublish x) files status old new from to = Unit {0}
+PrintsRequested readers writer shows (ToCheck x) files status old new from to =
     ChecksSet readers (string_bytes x.set) files (comparison_by x.keys x.strict) (style_by x.json) writer status old new
     from to
-PrintsRequested readers writer (ToList x) files status old new from to =
-    ListsSet writer (style_by x.json) (form_by x.long) (string_bytes x.set) files status from to
+PrintsRequested readers writer shows (ToList x) files status old new from to =
+    ListsSet writer shows (style_by x.json) (form_by x.long) (string_bytes x.set) files status from to

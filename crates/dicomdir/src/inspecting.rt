@@ -11,26 +11,16 @@ ghost use Rattle.dicomdir.specs.Grounds.{GroundsOfCheck, GroundsOfList};
 use crate::set_directory::{directory_bytes, refusal_of};
 use dd_elem::Write;
 use dd_file_set::Refusal;
-use dd_files::{Files, Progress};
+use dd_files::{Files, FoundPaths, Progress};
 use dd_json::Style;
 use dd_line::{CheckRequest, ListRequest};
 use dd_lines::print_line;
 use dd_messages::print_broken_json;
 use dd_refusals::{Words, style_for};
-use dd_report::{Check, CheckFault, Comparison, Form, check_records, list_records};
+use dd_report::{Check, Comparison, Form, Listing, ReportFault, check_records, list_file_set};
 use dd_walk::{DirFault, read_directory};
 use std::alloc::Global;
 use std::fmt;
-
-/// What is listed, and how.
-#[derive(Clone, Copy)]
-pub(crate) struct Listing<'a> {
-    pub(crate) alloc: Global,
-    /// The folder of the file-set.
-    pub(crate) folder: &'a str,
-    pub(crate) form: Form,
-    pub(crate) style: Style,
-}
 
 pub(crate) fn check_of(alloc: Global, check: &CheckRequest) -> Check<'_>
     ensures folder { result.folder.now ≡ string_bytes check.now.set }
@@ -87,8 +77,8 @@ pub(crate) fn run_check<F: Files + Progress, O: Write>(
     match check_records(check, &forest, files, out) {
         Ok(false) => Ok(0),
         Ok(true) => Ok(3),
-        Err(CheckFault::Unsent) => Ok(1),
-        Err(CheckFault::Memory) => Err(Refusal::memory()),
+        Err(ReportFault::Unsent) => Ok(1),
+        Err(ReportFault::Memory) => Err(Refusal::memory()),
     }
 }
 
@@ -119,7 +109,7 @@ fn print_broken<O: Write>(words: &str, style: Style, out: &mut O) -> fmt::Result
     }
 }
 
-pub(crate) fn run_list<F: Files, O: Write>(
+pub(crate) fn run_list<F: FoundPaths, O: Write>(
     listing: Listing<'_>,
     files: &mut F,
     out: &mut O,
@@ -131,7 +121,7 @@ pub(crate) fn run_list<F: Files, O: Write>(
         GroundsOfList listing.entry.folder.now (F.held files.old) refusal.fault) }
     ensures failed { IfOk result (λ status. status ≡ 1 → HasFailed (O.failures out.old) (O.failures out.new)) }
     ensures status { IfOk result (λ status. status ≤ 1) }
-    ensures lists { IfOk result (λ status. ListsSet O.Write listing.entry.style listing.entry.form
+    ensures lists { IfOk result (λ status. ListsSet O.Write F.is_shown listing.entry.style listing.entry.form
         listing.entry.folder.now (F.held files.old) status out.old out.new) }
     ensures kept { F.held files.new ≡ F.held files.old }
 {
@@ -140,8 +130,9 @@ pub(crate) fn run_list<F: Files, O: Write>(
         Ok(forest) => forest,
         Err(fault) => return Err(refusal_of(0, fault)),
     };
-    match list_records(&forest, listing.form, listing.style, out) {
+    match list_file_set(listing, &forest, files, out) {
         Ok(()) => Ok(0),
-        Err(_) => Ok(1),
+        Err(ReportFault::Unsent) => Ok(1),
+        Err(ReportFault::Memory) => Err(Refusal::memory()),
     }
 }

@@ -1,5 +1,5 @@
 //! Prints what a command says of its sources before it makes anything.
-ghost use Rattle.std.specs.Prelude.{◌≡◌, ◌↔◌, ◌<◌, ◌++◌, ℕ, List, All, IfErr, IsErr, IsOk, IsTrue, OnOk};
+ghost use Rattle.std.specs.Prelude.{◌≡◌, ◌↔◌, ◌<◌, ℕ, List, All, IfErr, IsErr, IsOk, IsTrue, OnOk};
 ghost use Rattle.std.specs.Prelude.{length, true};
 ghost use Rattle.dd_elem.specs.Device.{HasFailed};
 ghost use Rattle.dd_engine.specs.Noting.{AreBelow, IsBelow};

@@ -37,7 +37,7 @@ use crate::staging::{Sources, run_stage};
 use crate::telling::{tell_empty, tell_refusal};
 use dd_elem::Write;
 use dd_file_set::Refusal;
-use dd_files::{Files, Hints, Progress};
+use dd_files::{Files, FoundPaths, Hints, Progress};
 use dd_line::{Request, read_request};
 use dd_refusals::{Paths, is_quiet, refuse_line, shows_hints, tell_with_hints};
 use std::alloc::Global;
@@ -96,7 +96,7 @@ struct Work<'a> {
 ///
 /// The files show the progress of all but `list`, unless the line has `--quiet`. Hints follow the FAULT line where the
 /// files say that a person reads it, unless the line has `--quiet`, and with `--verbose` always.
-pub fn run<F: Files + Progress + Hints, O: Write, E: Write>(
+pub fn run<F: Files + FoundPaths + Progress + Hints, O: Write, E: Write>(
     alloc: Global,
     words: Vec<String>,
     files: &mut F,
@@ -166,7 +166,7 @@ pub fn run<F: Files + Progress + Hints, O: Write, E: Write>(
     // Where they say that, `list` has read the directory in the folder and sent its listing, and `check` has sent what
     // it found of each file, or that the directory can't be read.
     ensures lists { result ≡ 0 → IsTaken words.items → IsList (line_of words.items)
-        → ListsSet O.Write (style_in (line_of words.items)) (form_in (line_of words.items))
+        → ListsSet O.Write F.is_shown (style_in (line_of words.items)) (form_in (line_of words.items))
         (first_path (line_of words.items)) (F.held files.old) result out.old out.new }
     ensures checks { IsDone result → IsTaken words.items → IsCheck (line_of words.items)
         → ChecksSet F.In.Read (first_path (line_of words.items)) (F.held files.old)
@@ -188,7 +188,7 @@ pub fn run<F: Files + Progress + Hints, O: Write, E: Write>(
 
 /// Prints a refusal if there is one, and answers the status.
 #[tactic(auto, using(crate::proofs::MadeLast::same_request))]
-fn run_request<F: Files + Progress + Hints, O: Write, E: Write>(
+fn run_request<F: Files + FoundPaths + Progress + Hints, O: Write, E: Write>(
     alloc: Global,
     request: &Request,
     files: &mut F,
@@ -212,7 +212,7 @@ fn run_request<F: Files + Progress + Hints, O: Write, E: Write>(
     ensures says { IsDone result → SaysRequested O.Write request.now
         (choice_by (id_of request.now) (uid_of request.now)) (words_of (instances_of request.now)) result
         (F.held files.old) out.old out.new }
-    ensures printed { IsDone result → PrintsRequested F.In.Read O.Write request.now
+    ensures printed { IsDone result → PrintsRequested F.In.Read O.Write F.is_shown request.now
         (F.held files.old) result (F.refusals files.old) (F.refusals files.new) out.old out.new }
     ensures staged { IsDone result → StagesRequested O.Write request.now result
         (F.held files.old) (F.held files.new) out.old out.new }
@@ -240,7 +240,7 @@ fn run_request<F: Files + Progress + Hints, O: Write, E: Write>(
 
 /// Runs the command, whose paths have passed. Prints a refusal if there is one, and answers the status.
 #[tactic(auto, using(crate::proofs::MadeLast::same_request))]
-fn run_named<F: Files + Progress + Hints, O: Write, E: Write>(
+fn run_named<F: Files + FoundPaths + Progress + Hints, O: Write, E: Write>(
     alloc: Global,
     work: Work<'_>,
     files: &mut F,
@@ -264,7 +264,7 @@ fn run_named<F: Files + Progress + Hints, O: Write, E: Write>(
     ensures says { IsDone result → SaysRequested O.Write work.entry.request.now
         work.entry.names.now.choice work.entry.names.now.withdrawn.items result
         (F.held files.old) out.old out.new }
-    ensures printed { IsDone result → PrintsRequested F.In.Read O.Write work.entry.request.now
+    ensures printed { IsDone result → PrintsRequested F.In.Read O.Write F.is_shown work.entry.request.now
         (F.held files.old) result (F.refusals files.old) (F.refusals files.new) out.old out.new }
     ensures staged { IsDone result → StagesRequested O.Write work.entry.request.now result
         (F.held files.old) (F.held files.new) out.old out.new }
@@ -304,7 +304,7 @@ fn silence_quiet<F: Files + Progress>(request: &Request, files: &mut F)
 
 /// Runs the command on these sources, of which the line itself gives the first.
 #[tactic(auto, using(crate::proofs::MadeLast::same_request))]
-fn run_verb<F: Files + Progress + Hints, O: Write>(
+fn run_verb<F: Files + FoundPaths + Progress + Hints, O: Write>(
     alloc: Global,
     work: Work<'_>,
     sources: &[String],
@@ -343,7 +343,7 @@ fn run_verb<F: Files + Progress + Hints, O: Write>(
         work.entry.names.now.choice work.entry.names.now.withdrawn.items names status
         (F.held files.old) out.old out.new) }
 
-    ensures printed { IfOk result (λ status. PrintsRequested F.In.Read O.Write
+    ensures printed { IfOk result (λ status. PrintsRequested F.In.Read O.Write F.is_shown
         work.entry.request.now (F.held files.old) status
         (F.refusals files.old) (F.refusals files.new) out.old out.new) }
     ensures staged { (names : List (List ℕ))

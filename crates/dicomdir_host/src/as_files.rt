@@ -8,8 +8,8 @@ use crate::noted::Noted;
 use crate::opening::Input;
 use crate::search::Search;
 use crate::system::System;
-use dd_elem::Write;
-use dd_files::{Cause, Files, Hints, LinkFault, NotDone, NotThere, Progress, Step};
+use dd_elem::{Memory, Write};
+use dd_files::{Cause, Files, FoundPaths, Hints, LinkFault, NotDone, NotThere, Progress, Step};
 use dd_slots::Lanes;
 use std::fmt::InlineText;
 use std::io::{self, ErrorKind};
@@ -191,6 +191,18 @@ impl<'a, R: System> Files for HostFiles<'a, R> {
     ghost same_contents = { λ _. tt };
 
     ghost written_grows = { λ _ _ _ _ _. refl };
+}
+
+impl<R: System> FoundPaths for HostFiles<'_, R> {
+    ghost is_shown = { λ _ _ _. Unit {0} };
+
+    fn found_path(&mut self, set: &str, path: &str) -> Result<Option<String>, Memory> {
+        if self.plain_member(set, path, Search::Shown).is_err() {
+            return Ok(None);
+        }
+        let found = String::from_str(self.alloc, self.members.place())?;
+        Ok(Some(found))
+    }
 }
 
 impl<R: System> Progress for HostFiles<'_, R> {

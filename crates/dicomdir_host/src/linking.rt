@@ -16,7 +16,13 @@ use std::fs::Metadata;
 use std::io::{self, ErrorKind};
 
 impl<'a, R: System> HostFiles<'a, R> {
-    fn plain_member(&mut self, set: &str, path: &str, search: Search) -> io::Result<Metadata>
+    /// Looks the file up, and refuses all but a plain one.
+    pub(crate) fn plain_member(
+        &mut self,
+        set: &str,
+        path: &str,
+        search: Search,
+    ) -> io::Result<Metadata>
         ensures plain { IfOk result (λ seen. IsFile (file_type seen)) }
         ensures same { self.new ≡ record self.old { members = self.new.members } }
     {

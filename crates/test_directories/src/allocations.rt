@@ -1,5 +1,3 @@
-//! Each allocation of each call refused in turn: the call lacks memory, nothing has changed, and made again it answers.
-
 use crate::own::{files, images, instances};
 use crate::publishing::{history, label_of, limits_of, published};
 use crate::sending::{first_catalogue, first_plan};

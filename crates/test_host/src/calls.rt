@@ -3,7 +3,7 @@
 use crate::disc::{Call, Disc, DiscFiles};
 use crate::power_cut::Kind;
 use dd_elem::{Read, Write};
-use dd_files::{Files, Hints, LinkFault, Progress, Step};
+use dd_files::{Files, FoundPaths, Hints, LinkFault, Progress, Step};
 use dd_slots::Lanes;
 use dicomdir_host::{HostFiles, LastRefusal};
 use std::alloc::Global;
@@ -170,6 +170,19 @@ fn read(
     }
 }
 
+// Adds the path at which a file of a file-set is found.
+fn look_up(
+    files: &mut HostFiles<'_, DiscFiles<'_>>,
+    what: &str,
+    said: &mut String,
+) -> Result<(), Fail> {
+    let (set, path) = named(what);
+    match files.found_path(set, path)? {
+        Some(found) => Ok(said.push_str(found.as_str())?),
+        None => Ok(said.push('-')?),
+    }
+}
+
 // Splits `set: from at path`.
 fn link_of(what: &str) -> (&str, &str, &str) {
     let (set, paths) = named(what);
@@ -237,6 +250,7 @@ fn tell(
     let (verb, what) = call.split_once(' ').unwrap_or((call, ""));
     match verb {
         "read" | "find" | "exact" | "names" => return read(alloc, files, verb, what, said),
+        "where" => return look_up(files, what, said),
         "unstored" => return Ok(said.push_str(files.unstored())?),
         "second" => return Ok(said.push_str(second(files, what))?),
         "stored" => return Ok(said.push_str(stored(files, what)?)?),

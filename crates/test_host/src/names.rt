@@ -48,6 +48,13 @@ link d/PT1, file d/PT1/IM1, find d: d/PT1/IM1 > . . -
 link d/PT1, file d/PT1/IM1, dir d/pt1, also d/pt1/IM1, find d: d/PT1/IM1 > . . . . two
 link d/B, dir d/b, file d/b/C, also d/B/C, find d: d/B/C, find d/B: d/B/C, find d: d/B/C > . . . . old two old
 find d: d/P/A, dir d/P, file d/P/A, find d: d/P/A > - . . old
+where d: d/A, file d/A, where d: d/A, where d/: d/A > - . d/A d/A
+dir d/pt1, file d/pt1/im1;1, where d: d/PT1/IM1 > . . d/pt1/im1;1
+dir d/PT1, file d/PT1/im1., also d/PT1/IM1.;1, where d: d/PT1/IM1 > . . . d/PT1/IM1.;1
+link d/A, where d: d/A, file d/a, where d: d/A > . - . d/a
+dir d/A, pipe d/B, where d: d/A, where d: d/B > . . - -
+dir d/P, file d/P/A, fail open, where d: d/P/A, find d: d/P/A, find d: d/P/A > . . . d/P/A - old
+dir d/p, file d/p/a, file d/p/b, where d: d/P/A, find d: d/P/B, where d: d/P/C > . . . d/p/a old -
 file d/dicomdir, find D: D/DICOMDIR > . -
 file Discs/dicomdir, file discs/dicomdir, find Discs: Discs/DICOMDIR > . . old
 file a.dcm, read A.DCM > . -
@@ -127,6 +134,8 @@ const LOOKS: &str = "\
 find d: d/PT1/IM1 > d/PT1, d/pt1, d/PT1.;1, d/PT1;1, d/PT1., d/pt1.;1, d/pt1;1, d/pt1.
 dir d/P, file d/P/A, file d/P/B, find d: d/P/A, find d: d/P/B > d/P, d/P/A, d/P/B
 dir d/p, file d/p/a, file d/p/b, find d: d/P/A, find d: d/P/B > d/P, d/p, d/p/A, d/p/a, d/p/B, d/p/b
+dir d/p, file d/p/a, where d: d/P/A, where d: d/P/B > d/P, d/p, d/p/A, d/p/a, \
+d/p/B, d/p/b, d/p/B.;1, d/p/B;1, d/p/B., d/p/b.;1, d/p/b;1, d/p/b.
 dir o, dir d/P, file d/P/A, stored 3: d: d/P/A at o/A, stored 3: d: d/P/A at o/B > \
 d/P, d/P/A, o/A, d/P/A, o/B
 dir d/P, file d/P/A, exact d: d/P/A, exact d: d/P/B, exact d: d/Q/A > d/P, d/P/A, d/P/B, d/Q

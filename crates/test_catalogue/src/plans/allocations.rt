@@ -1,5 +1,3 @@
-//! Each allocation of a layout refused in turn: it lacks memory, nothing has changed, and made again it answers.
-
 use crate::plans::plans::label_of;
 use crate::plans::records::{PLANS, lines};
 use dd_elem::FileId;

@@ -1,6 +1,3 @@
-//! Refuses each allocation of a merge in turn: the merge reports that, has changed nothing, and succeeds when made
-//! again.
-
 use crate::merges::directories::{directories, label, slices, widest};
 use crate::merges::picks::in_words;
 use crate::merges::withdrawals::uids_of;

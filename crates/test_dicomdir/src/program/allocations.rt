@@ -1,5 +1,3 @@
-//! Each allocation of each call refused in turn: the call lacks memory, nothing has changed, and made again it answers.
-
 use crate::program::copies::{DIGEST, digest_words};
 use crate::program::filings::filing_refused;
 use crate::program::lines::said;

@@ -1,6 +1,3 @@
-//! Refuses each allocation of each call in turn: the call reports that, has changed nothing, and succeeds when made
-//! again.
-
 use crate::files::vectors::{file_named, meta_of};
 use crate::files::{reading, streaming};
 use crate::sets::allocations::is_at_end;

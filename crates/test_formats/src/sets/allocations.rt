@@ -1,5 +1,3 @@
-//! Each allocation of each call refused in turn: the call lacks memory, nothing has changed, and made again it answers.
-
 use crate::sets::outlines::outline;
 use crate::sets::scanning::in_words;
 use crate::sets::spellings::{IMAGES, PATIENT_ID, PIXEL_DATA, set_of, spelled};

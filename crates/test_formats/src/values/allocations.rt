@@ -1,5 +1,3 @@
-//! Each allocation of each call refused in turn: the call lacks memory, nothing has changed, and made again it answers.
-
 use dd_elem::{Key, KeyRefused};
 use dd_vectors::{refuse_allocation, refuse_each, require, was_refused};
 use std::alloc::Global;

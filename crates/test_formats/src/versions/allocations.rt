@@ -1,6 +1,3 @@
-//! Refuses each allocation of each call in turn: the call reports that, has changed nothing, and succeeds when made
-//! again.
-
 use crate::sets::allocations::is_at_end;
 use crate::versions::ingesting::text_of_version;
 use crate::versions::reading::file_of;

@@ -2,7 +2,7 @@
 use Rattle.std.proofs.Common.{◌≢◌, Err, refl, rules}
 use Rattle.dd_walk.specs.ForestViews.{walk_view}
 use Rattle.dd_lines.specs.Telling.{way_of}
-use Rattle.dd_report.specs.declared.checking.CheckFault.TheVariants.{Unsent}
+use Rattle.dd_report.specs.declared.checking.ReportFault.TheVariants.{Unsent}
 use Rattle.dd_report.proofs.ToldTrees.{rest_unsent, walk_unsent, walk_went}
 use Rattle.dd_report.proofs.checking.check_records.Goals as goal
 

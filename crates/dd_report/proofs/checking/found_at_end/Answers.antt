@@ -2,7 +2,7 @@
 use Rattle.std.proofs.Common.{◌≢◌, Err, refl}
 use Rattle.dd_report.specs.Batches.{report_of}
 use Rattle.dd_lines.specs.Telling.{way_of}
-use Rattle.dd_report.specs.declared.checking.CheckFault.TheVariants.{Unsent}
+use Rattle.dd_report.specs.declared.checking.ReportFault.TheVariants.{Unsent}
 use Rattle.dd_report.proofs.Batching.{closes_err, closes_failed, closes_ok, closes_unsent, course_of_none}
 use Rattle.dd_report.proofs.Batching.{found_of_none}
 use Rattle.dd_report.proofs.checking.found_at_end.Goals as goal

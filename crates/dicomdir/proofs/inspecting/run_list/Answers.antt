@@ -1,7 +1,8 @@
--- The directory could not be read, or has a fault.
-use Rattle.std.proofs.Common.{false}
+-- The directory could not be read, or has a fault, or its listing was printed.
+use Rattle.std.proofs.Common.{false, rules}
 use Rattle.std.proofs.lemmas.Result.{err_from_is_err_and}
 use Rattle.dicomdir.proofs.Due.{engine_due}
+use Rattle.dicomdir.proofs.Inspected.{list_unsent, listed}
 use Rattle.dicomdir.proofs.SetsGrounds.{list_grounds}
 use Rattle.dicomdir.proofs.inspecting.run_list.Goals as goal
 
@@ -24,3 +25,17 @@ pub returns-in-Err-clause-grounds : goal.returns-in-Err-clause-grounds
 returns-in-Err-clause-grounds g c =
     c.refusal_of.ensures.grounds c.args.listing.folder.now c.in_ok-bytes.bytes.items _ c.in_ok-bytes.ensures.read
     (rw c.deref.ensures.value at c.in-Err.ensures.refused)
+
+pub returns-in-Ok-list_file_set-clause-lists : goal.returns-in-Ok-list_file_set-clause-lists
+returns-in-Ok-list_file_set-clause-lists g c =
+    listed g.O.Write g.F.FoundPaths.is_shown c.args.listing.folder.now c.in_ok-bytes.bytes.items
+    (g.F.Files.held c.args.files.now) c.args.listing.style c.args.listing.form c.args.out.now c.list_file_set.new.to
+    c.in_ok-bytes.ensures.read _ (rw c.deref.ensures.value at c.in-Ok.ensures.walk)
+    (rw c.in_ok-bytes.ensures.kept at c.in-Ok-list_file_set.ensures.sent)
+
+pub returns-in-Err-Unsent-clause-lists : goal.returns-in-Err-Unsent-clause-lists
+returns-in-Err-Unsent-clause-lists g c =
+    list_unsent g.O.Write g.F.FoundPaths.is_shown c.args.listing.folder.now c.in_ok-bytes.bytes.items
+    (g.F.Files.held c.args.files.now) c.args.listing.style c.args.listing.form c.args.out.now c.list_file_set.new.to
+    c.in_ok-bytes.ensures.read _ (rw c.deref.ensures.value at c.in-Ok.ensures.walk)
+    (rw c.in_ok-bytes.ensures.kept at c.in-Err-Unsent.ensures.unsent (search rules))

@@ -164,10 +164,10 @@ returns-in-Ok-clause-publish_says g c = λ done _ names.
 
 pub returns-in-Ok-clause-lists : goal.returns-in-Ok-clause-lists
 returns-in-Ok-clause-lists g c = λ is _ lists.
-    subst (λ words. ListsSet g.O.Write (style_in (line_of words)) (form_in (line_of words)) (first_path (line_of words))
+    subst (λ words. ListsSet g.O.Write g.F.FoundPaths.is_shown (style_in (line_of words)) (form_in (line_of words)) (first_path (line_of words))
     (g.F.Files.held c.args.files.now) c.run_request.result c.args.out.now c.run_request.new.out)
     c.as_slice.ensures.value
-    (requested_lists g.F.In.Read g.O.Write _ _ _ _ _ _ c.in-Ok.request _ c.in-Ok.ensures.request
+    (requested_lists g.F.In.Read g.O.Write g.F.FoundPaths.is_shown _ _ _ _ _ _ c.in-Ok.request _ c.in-Ok.ensures.request
     (subst (λ words. IsList (line_of words)) (sym c.as_slice.ensures.value) lists)
     (c.run_request.ensures.printed (inl is)))
 
@@ -177,7 +177,7 @@ returns-in-Ok-clause-checks g c = λ is _ checks.
     (comparison_in (line_of words)) (style_in (line_of words)) g.O.Write c.run_request.result
     (g.F.Files.refusals c.args.files.now) (g.F.Files.refusals c.run_request.new.files) c.args.out.now c.run_request.new.out)
     c.as_slice.ensures.value
-    (requested_checks g.F.In.Read g.O.Write _ _ _ _ _ _ c.in-Ok.request _ c.in-Ok.ensures.request
+    (requested_checks g.F.In.Read g.O.Write g.F.FoundPaths.is_shown _ _ _ _ _ _ c.in-Ok.request _ c.in-Ok.ensures.request
     (subst (λ words. IsCheck (line_of words)) (sym c.as_slice.ensures.value) checks)
     (c.run_request.ensures.printed is))
 
