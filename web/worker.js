@@ -1,0 +1,363 @@
+'use strict';
+// The program in a worker of a page: the files that the program sees, and its calls to the host (c/host.h). The messages
+// stand in docs/WEB.md. What reads, writes, stores and ends a file may wait for the page: then the stack is unwound, and
+// wound up again once the answer is there.
+
+// The most bytes of a piece, and those of the first of a file: of many files only the head is read.
+const PIECE = 4 << 20, FIRST = 1 << 18;
+// Linux's numbers and words.
+const ERRORS = {
+  EPERM: [1, 'Operation not permitted'],
+  ENOENT: [2, 'No such file or directory'],
+  EIO: [5, 'Input/output error'],
+  EBADF: [9, 'Bad file descriptor'],
+  EACCES: [13, 'Permission denied'],
+  EEXIST: [17, 'File exists'],
+  ENOTDIR: [20, 'Not a directory'],
+  EISDIR: [21, 'Is a directory'],
+  EINVAL: [22, 'Invalid argument'],
+  EFBIG: [27, 'File too large'],
+  ENOSPC: [28, 'No space left on device'],
+  EROFS: [30, 'Read-only file system'],
+  ENAMETOOLONG: [36, 'File name too long'],
+  ENOTSUP: [95, 'Operation not supported'],
+};
+const WRITES = 0o3, CREATES = 0o100;
+const FOLDER = 0o040755, PLAIN = 0o100644;
+// The outputs, and what the program opens first.
+const DEVICE = { mode: 0o020666, inode: 0, size: 0, modified: 0 };
+const UNWINDING = 1, REWINDING = 2;
+
+const refused = (name) => -(ERRORS[name] ?? ERRORS.EIO)[0];
+
+// What stands at each path: the chosen files, their folders, and what the program makes.
+class Tree {
+  #places = new Map([['', { mode: FOLDER, inode: 1, size: 0, modified: 0 }]]);
+
+  constructor(files, folders) {
+    for (const path of folders) this.#addFolders(path.split('/'));
+    files.forEach(([path, size, modified = 0], number) => {
+      const names = path.split('/');
+      this.#addFolders(names.slice(0, -1));
+      this.add(path, { mode: PLAIN, size, modified, number });
+    });
+  }
+
+  #addFolders(names) {
+    for (let n = 1; n <= names.length; n++) {
+      const path = names.slice(0, n).join('/');
+      if (!this.#places.has(path)) this.add(path, { mode: FOLDER, size: 0, modified: 0 });
+    }
+  }
+
+  add(path, place) {
+    place.inode = this.#places.size + 1;
+    place.path = path;
+    this.#places.set(path, place);
+    return place;
+  }
+
+  // Walks from the folder that all is in. It gives the place, or the error; and the path where a new name can stand.
+  walk(path) {
+    if (path === '/dev/null') return { place: DEVICE };
+    const names = path.split('/').filter((name) => name !== '' && name !== '.');
+    const isFolder = /(^|\/)\.{0,2}$/.test(path);
+    const walked = [];
+    let place = this.#places.get('');
+    for (const [n, name] of names.entries()) {
+      if (place.mode !== FOLDER) return { error: 'ENOTDIR' };
+      if (name === '..') walked.pop(); else walked.push(name);
+      place = this.#places.get(walked.join('/'));
+      if (!place) return { error: 'ENOENT', free: n === names.length - 1 && walked.join('/') };
+    }
+    if (path === '') return { error: 'ENOENT' };
+    return isFolder && place.mode !== FOLDER ? { error: 'ENOTDIR' } : { place };
+  }
+}
+
+// The lines of an output, as they end.
+class Lines {
+  #rest = '';
+  #decoder = new TextDecoder('utf-8', { ignoreBOM: true });
+
+  constructor(of) { this.of = of; }
+
+  #tell(lines) { if (lines.length > 0) postMessage({ kind: 'lines', of: this.of, lines }); }
+
+  add(bytes) {
+    const lines = (this.#rest + this.#decoder.decode(bytes, { stream: true })).split('\n');
+    this.#rest = lines.pop();
+    this.#tell(lines);
+  }
+
+  end() { this.#tell(this.#rest === '' ? [] : [this.#rest]); }
+}
+
+// The calls of c/host.h. A call that waits gives a request in place of a number: a message, what of it is transferred, and
+// what to do with the answer.
+class Host {
+  opened = new Set();
+  bytes = 0;
+  made = 0;
+  #tree;
+  #words;
+  #memory;
+  #files = new Map();
+  #next = 3;
+  #outputs = new Map([[1, new Lines('out')], [2, new Lines('errors')]]);
+  // What was written last to a made file, and not handed over yet.
+  #kept = { file: null, bytes: null, length: 0 };
+  #told = 0;
+
+  constructor({ words, files, folders = [] }) {
+    this.#tree = new Tree(files, folders);
+    this.#words = ['dicomdir', ...words].map((word) => new TextEncoder().encode(word));
+  }
+
+  begin(memory) { this.#memory = memory; }
+
+  end() {
+    for (const lines of this.#outputs.values()) lines.end();
+    this.#tell();
+  }
+
+  #tell() { postMessage({ kind: 'progress', bytes: this.bytes, opened: this.opened.size }); }
+
+  #view(at, length) { return new Uint8Array(this.#memory.buffer, at >>> 0, length >>> 0); }
+
+  // No chosen file has a name that is not UTF-8.
+  #walk(at, length) {
+    try {
+      return this.#tree.walk(new TextDecoder('utf-8', { fatal: true, ignoreBOM: true }).decode(this.#view(at, length)));
+    } catch {
+      return { error: 'ENOENT' };
+    }
+  }
+
+  calls() {
+    const call = (name) => (...words) => this[name](...words);
+    return Object.fromEntries(
+      ['open', 'read', 'write', 'close', 'store', 'stat', 'folder', 'link', 'terminal', 'clock', 'word', 'words'].map((name) => [name, call(name)]));
+  }
+
+  open(at, length, flags) {
+    const { place, error, free } = this.#walk(at, length);
+    if (place && place !== DEVICE && (flags & WRITES) !== 0) return refused(flags & CREATES ? 'EEXIST' : 'EROFS');
+    if (place) return this.#add(place);
+    if (error !== 'ENOENT' || !(flags & CREATES) || !free) return refused(error);
+    const made = this.#tree.add(free, { mode: PLAIN, size: 0, modified: Date.now(), made: this.made });
+    postMessage({ kind: 'create', made: this.made++, path: free });
+    return this.#add(made);
+  }
+
+  #add(place) {
+    if (place.number !== undefined) this.opened.add(place.number);
+    this.#files.set(this.#next, { place, at: 0, piece: null, from: 0 });
+    return this.#next++;
+  }
+
+  read(number, to, room) {
+    const file = this.#files.get(number);
+    if (number === 0 || file?.place === DEVICE) return 0;
+    if (file?.place.mode === FOLDER) return refused('EISDIR');
+    if (file?.place.number === undefined) return refused('EBADF');
+    const { at, place } = file;
+    if (at >= place.size) return 0;
+    if (file.piece && at < file.from + file.piece.length) return this.#give(file, to, room);
+    file.piece = null;
+    const message = { kind: 'read', file: place.number, from: at, to: Math.min(at + (at === 0 ? FIRST : PIECE), place.size) };
+    const then = ({ bytes, error }) => {
+      if (error || bytes.byteLength !== message.to - at) return refused(error);
+      file.piece = new Uint8Array(bytes);
+      file.from = at;
+      return this.#give(file, to, room);
+    };
+    return { message, then };
+  }
+
+  #give(file, to, room) {
+    const start = file.at - file.from, part = file.piece.subarray(start, start + (room >>> 0));
+    this.#view(to, part.length).set(part);
+    file.at += part.length;
+    if (file.at === file.place.size) file.piece = null;
+    this.bytes += part.length;
+    const now = performance.now();
+    if (now - this.#told >= 100) {
+      this.#told = now;
+      this.#tell();
+    }
+    return part.length;
+  }
+
+  write(number, from, length) {
+    const bytes = this.#view(from, length);
+    const output = this.#outputs.get(number);
+    if (output) {
+      output.add(bytes.slice());
+      return bytes.length;
+    }
+    const file = this.#files.get(number);
+    if (file?.place.made === undefined) return refused('EBADF');
+    if (file.error) return refused(file.error);
+    const kept = this.#kept;
+    if (kept.length > 0 && (kept.file !== file || kept.length === PIECE)) {
+      return this.#handOver(() => this.write(number, from, length));
+    }
+    kept.bytes ??= new Uint8Array(PIECE);
+    const part = bytes.subarray(0, PIECE - kept.length);
+    kept.bytes.set(part, kept.length);
+    kept.file = file;
+    kept.length += part.length;
+    return part.length;
+  }
+
+  // What the page refuses of a file, the file's later calls answer.
+  #handOver(after) {
+    const { file, length } = this.#kept, bytes = this.#kept.bytes.slice(0, length);
+    const message = { kind: 'write', made: file.place.made, from: file.place.size, bytes };
+    const then = ({ error }) => {
+      this.#kept.length = 0;
+      file.place.size += length;
+      if (error) file.error ??= error;
+      return after();
+    };
+    return { message, transfer: [bytes.buffer], then };
+  }
+
+  store(number) {
+    const file = this.#files.get(number);
+    if (!file) return refused('EBADF');
+    if (this.#kept.file === file && this.#kept.length > 0) return this.#handOver(() => this.store(number));
+    return file.error ? refused(file.error) : 0;
+  }
+
+  close(number) {
+    const file = this.#files.get(number);
+    if (!file) return refused('EBADF');
+    if (this.#kept.file === file && this.#kept.length > 0) return this.#handOver(() => this.close(number));
+    this.#files.delete(number);
+    if (file.place.made === undefined) return 0;
+    const message = { kind: 'close', made: file.place.made, size: file.place.size };
+    return { message, then: ({ error }) => (error ?? file.error ? refused(error ?? file.error) : 0) };
+  }
+
+  stat(number, at, length, follows, to) {
+    let place = DEVICE;
+    if (number >= 3) place = this.#files.get(number)?.place;
+    if (number < 0) {
+      const walked = this.#walk(at, length);
+      if (walked.error) return refused(walked.error);
+      place = walked.place;
+    }
+    if (!place) return refused('EBADF');
+    const seconds = Math.floor(place.modified / 1000), rest = (place.modified - seconds * 1000) * 1e6;
+    const view = new DataView(this.#memory.buffer, to >>> 0);
+    [place.mode, 1, place.inode, place.size, 1, seconds, Math.floor(rest)].forEach((it, n) => {
+      view.setBigInt64(8 * n, BigInt(it), true);
+    });
+    return 0;
+  }
+
+  folder(at, length) {
+    const { place, error, free } = this.#walk(at, length);
+    if (place) return refused('EEXIST');
+    if (error !== 'ENOENT' || !free) return refused(error);
+    this.#tree.add(free, { mode: FOLDER, size: 0, modified: Date.now() });
+    postMessage({ kind: 'folder', path: free });
+    return 0;
+  }
+
+  link() { return refused('ENOTSUP'); }
+
+  terminal() { return 0; }
+
+  clock(which) {
+    const milliseconds = which === 0 ? Date.now() : performance.now();
+    return BigInt(Math.round(milliseconds * 1e6));
+  }
+
+  word(number, to, room) {
+    const word = this.#words[number >>> 0];
+    if (!word) return -1;
+    if (word.length > room >>> 0) return -2;
+    this.#view(to, word.length).set(word);
+    return word.length;
+  }
+
+  words(error, to, room) {
+    const [, words] = Object.values(ERRORS).find(([number]) => number === error) ?? [error, `Unknown error ${error}`];
+    const written = new TextEncoder().encode(words);
+    if (written.length > room >>> 0) return refused('EINVAL');
+    this.#view(to, written.length).set(written);
+    return written.length;
+  }
+}
+
+let answered;
+let begun = false;
+
+function asked({ message, transfer = [] }) {
+  return new Promise((resolve) => {
+    answered = resolve;
+    postMessage(message, transfer);
+  });
+}
+
+// Runs the program to its end.
+async function run(start) {
+  const host = new Host(start);
+  let exports, request, answer;
+  const waiting = (call) => (...words) => {
+    let step;
+    if (exports.asyncify_get_state() === REWINDING) {
+      exports.asyncify_stop_rewind();
+      step = request.then(answer);
+    } else {
+      step = call(...words);
+    }
+    if (typeof step === 'number') return step;
+    request = step;
+    exports.asyncify_start_unwind(room);
+    return 0;
+  };
+  const calls = host.calls();
+  for (const name of ['read', 'write', 'store', 'close']) calls[name] = waiting(calls[name]);
+  const module = start.module instanceof WebAssembly.Module ? start.module : new WebAssembly.Module(start.module);
+  ({ exports } = new WebAssembly.Instance(module, { host: calls }));
+  if (start.memory) exports.limit(start.memory >>> 16);
+  const memory = exports.memory;
+  host.begin(memory);
+  const room = exports.unwound();
+  const first = new DataView(memory.buffer).getUint32(room, true);
+  let stack = 0;
+  let status = exports.main(0, 0n);
+  while (exports.asyncify_get_state() === UNWINDING) {
+    exports.asyncify_stop_unwind();
+    stack = Math.max(stack, new DataView(memory.buffer).getUint32(room, true) - first);
+    answer = await asked(request);
+    exports.asyncify_start_rewind(room);
+    status = exports.main(0, 0n);
+  }
+  host.end();
+  const opened = [...host.opened].sort((a, b) => a - b);
+  return { kind: 'end', status, opened, made: host.made, bytes: host.bytes, memory: memory.buffer.byteLength, stack };
+}
+
+// Engines say in different ways that there is no memory, and that the stack is full.
+function why(error) {
+  if (error instanceof WebAssembly.RuntimeError || /stack|recursion/i.test(error?.message)) return 'trap';
+  return error instanceof RangeError || /memory/i.test(error?.message) ? 'memory' : 'host';
+}
+
+onmessage = async ({ data }) => {
+  if (begun) {
+    answered(data);
+    return;
+  }
+  begun = true;
+  try {
+    postMessage(await run(data));
+  } catch (error) {
+    postMessage({ kind: 'failed', why: why(error), text: String(error) });
+  }
+};
