@@ -1,5 +1,5 @@
 # Tests the prebuilt program; installs it, its scripts, their man pages and completions, the C library, the Python
-# package and the documents; and makes Debian packages of them, and a wheel.
+# package, the page for browsers and the documents; and makes Debian packages of them, and a wheel.
 # PREFIX, LIBDIR, PYTHONDIR, PYTHON and DESTDIR may hold spaces. CPU is v2 or v3, and not taken from the environment.
 SHELL := /bin/sh
 PREFIX ?= /usr/local
@@ -15,6 +15,7 @@ programs.v3 := prebuilt/x86_64-linux-gnu/dicomdir-v3
 program := $(or $(programs.$(CPU)),$(error CPU is v2 or v3))
 library := prebuilt/x86_64-linux-gnu/libdicomdir.so.1
 headers := dicomdir.h dicomdir_table.h
+page := prebuilt/web/dicomdir.html
 # They do the work of 'dicomdir index'. Each has a man page and completions by its name.
 scripts := dicomdir-parallel dicomdir-slurm
 version := $(shell packaging/version)
@@ -33,14 +34,15 @@ help:
 	@echo 'dicomdir $(version), a program for Linux on x86-64 with glibc 2.34 or newer'
 	@echo
 	@echo '  make check      tests it in a few seconds, without network and root'
-	@echo '  make install    copies it, its scripts, man pages, completions and documents, the C library, its headers'
-	@echo '                  and the Python package to PREFIX, /usr/local by default; where DESTDIR is given, to that'
-	@echo '                  folder in place of /. LIBDIR is PREFIX/lib. PYTHONDIR is the folder below PREFIX in which'
-	@echo '                  PYTHON looks for packages, which is /usr/bin/python3 by default.'
+	@echo '  make install    copies it, its scripts, man pages, completions and documents, the C library, its headers,'
+	@echo '                  the Python package and the page for browsers to PREFIX, /usr/local by default; where'
+	@echo '                  DESTDIR is given, to that folder in place of /. LIBDIR is PREFIX/lib. PYTHONDIR is the'
+	@echo '                  folder below PREFIX in which PYTHON looks for packages, /usr/bin/python3 by default.'
 	@echo '                  With CPU=v3 the program is the faster one, for processors of x86-64-v3 alone'
 	@echo '  make uninstall  removes these files again, from the same PREFIX, LIBDIR, PYTHONDIR, PYTHON and DESTDIR'
 	@echo '  make deb        makes Debian packages of them, in packaging/out'
 	@echo '  make wheel      makes a wheel of the Python package and the C library, in packaging/out'
+	@echo '  make page       makes the page for browsers of its sources in web, and of the program that it has'
 	@echo '  make form       looks at the form of the sources, at wrong bodies and at pages, in seconds (CONTRIBUTING.md)'
 	@echo "  make try        runs the program of today's sources, without proof, as make try ARGS='index OUT a.dcm'. The shell"
 	@echo '                  reads ARGS, where make wants $$$$ for $$. Names are those of the folder in which make works. Its'
@@ -55,9 +57,10 @@ help:
 install:
 	@sed -n 's|^program \(.*\)|\1  $(program)|p' $(program).made-from | sha256sum --check --quiet -
 	@sed -n 's|^library \(.*\)|\1  $(library)|p' $(library).made-from | sha256sum --check --quiet -
+	@sed -n 's|^page \(.*\)|\1  $(page)|p' $(page).made-from | sha256sum --check --quiet -
 	install -D -m 755 $(program) $(bin)/dicomdir
 	install -m 755 $(scripts:%=scripts/%) $(bin)
-	install -D -m 644 -t $(share)/dicomdir scripts/functions
+	install -D -m 644 -t $(share)/dicomdir scripts/functions $(page)
 	install -m 755 scripts/slurm-job $(share)/dicomdir/slurm-job
 	install -D -m 644 docs/dicomdir.1 $(share)/man/man1/dicomdir.1
 	install -m 644 $(scripts:%=docs/%.1) $(share)/man/man1
@@ -70,7 +73,7 @@ install:
 	install -m 644 $(program).made-from $(ours)/dicomdir.made-from
 	install -d $(ours)/docs $(ours)/docs/images
 	install -m 644 docs/*.md docs/json-schema.json $(ours)/docs
-	install -m 644 docs/images/*.svg $(ours)/docs/images
+	install -m 644 docs/images/*.svg docs/images/*.png $(ours)/docs/images
 	install -D -m 644 -t $(ours)/examples bindings/c/tree.c bindings/python/tree.py
 	install -D -m 644 -t $(lib) $(library)
 	ln -sf libdicomdir.so.1 $(lib)/libdicomdir.so
@@ -86,8 +89,10 @@ uninstall:
 	for name in dicomdir $(scripts); do \
 		rm -f $(bin)/$$name $(share)/man/man1/$$name.1 $(share)/bash-completion/completions/$$name \
 			$(share)/fish/vendor_completions.d/$$name.fish || exit 1; done
-	rm -f $(share)/zsh/site-functions/_dicomdir $(share)/dicomdir/functions $(share)/dicomdir/slurm-job
-	rm -f $(ours)/README.md $(ours)/CHANGELOG.md $(ours)/dicomdir.made-from $(ours)/docs/*.md $(ours)/docs/images/*.svg
+	rm -f $(share)/zsh/site-functions/_dicomdir $(share)/dicomdir/functions $(share)/dicomdir/slurm-job \
+		$(share)/dicomdir/dicomdir.html
+	rm -f $(ours)/README.md $(ours)/CHANGELOG.md $(ours)/dicomdir.made-from $(ours)/docs/*.md
+	rm -f $(ours)/docs/images/*.svg $(ours)/docs/images/*.png
 	rm -f $(ours)/docs/json-schema.json
 	rm -f $(ours)/examples/tree.c $(ours)/examples/tree.py
 	rm -f $(lib)/libdicomdir.so.1 $(lib)/libdicomdir.so $(lib)/pkgconfig/dicomdir.pc
@@ -116,7 +121,10 @@ deb:
 wheel:
 	@bindings/python/wheel packaging/out
 
+page:
+	web/build-page
+
 docs:
 	docs/generate --write
 
-.PHONY: help check form try quick install uninstall deb wheel docs
+.PHONY: help check form try quick install uninstall deb wheel page docs
