@@ -16,12 +16,13 @@ def answer(program, *words, **more):
     return done.returncode, done.stdout, done.stderr
 
 
+# The page knows a disc by the name of its folder.
 def listed(program, disc):
-    return answer(program, "list", "--long", "--json", disc)
+    return answer(program, "list", "--long", "--json", disc.name, cwd=disc.parent)
 
 
 def checked(program, disc):
-    return answer(program, "check", "--keys", "--strict", "--json", disc)
+    return answer(program, "check", "--keys", "--strict", "--json", disc.name, cwd=disc.parent)
 
 
 def objects(lines):
