@@ -14,7 +14,8 @@ use Rattle.dd_dir.specs.Own.{level_in, listed_at, listed_in, root, unless}
 use Rattle.dd_dir.specs.OwnVersions.{AnswersWalk, ListsSome}
 use Rattle.dd_dir.specs.OwnViews.{AnswersRecords, listed_view}
 use Rattle.dd_walk.specs.Trees.{Node, Trees, Walk, no_trees, tree}
-use Rattle.dd_dir.specs.Withdrawn.{AreRisingUids, withdrawn_of}
+use Rattle.dd_dir.specs.Withdrawn.{AreRisingUids}
+use Rattle.dd_walk.specs.WithdrawnPieces.{withdrawn_of}
 
 -- ---- the checks of records
 

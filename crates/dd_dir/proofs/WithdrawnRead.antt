@@ -14,7 +14,7 @@ use Rattle.dd_records.specs.declared.label.Label.{Label}
 use Rattle.dd_records.specs.Withdrawals.{withdrawn_value}
 use Rattle.dd_dir.specs.Directories.{directory_set}
 use Rattle.dd_walk.specs.Saying.{withdrawn_in}
-use Rattle.dd_dir.specs.Withdrawn.{pieces_in, pieces_of}
+use Rattle.dd_walk.specs.WithdrawnPieces.{pieces_in, pieces_of}
 use Rattle.dd_dir.proofs.RecordsSay.{clean_of-padded}
 
 -- a character of a UID, or `\`: neither NUL nor a space

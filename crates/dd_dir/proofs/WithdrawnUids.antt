@@ -14,7 +14,8 @@ use Rattle.dd_catalogue.specs.Rising.{above_trans}
 use Rattle.dd_elem.specs.Ordered.{bytes_cmp}
 use Rattle.dd_elem.specs.Uid.{IsUid, is_uid}
 use Rattle.dd_elem.proofs.UidForm.{IsUid_from_is_uid, is_uid_from_IsUid}
-use Rattle.dd_dir.specs.Withdrawn.{AreRisingUids, pieces_of, uid_in}
+use Rattle.dd_dir.specs.Withdrawn.{AreRisingUids, uid_in}
+use Rattle.dd_walk.specs.WithdrawnPieces.{pieces_of}
 
 -- ---- they rise
 

@@ -13,7 +13,8 @@ use Rattle.dd_dir.specs.declared.own_fault.OwnFault.TheVariants.{BadWithdrawal, 
 use Rattle.dd_dir.specs.Own.{Listed, ListsFirst, own, root}
 use Rattle.dd_walk.specs.Saying.{digest_in, key_of}
 use Rattle.dd_walk.specs.Trees.{Walk}
-use Rattle.dd_dir.specs.Withdrawn.{AreRisingUids, withdrawn_of}
+use Rattle.dd_dir.specs.Withdrawn.{AreRisingUids}
+use Rattle.dd_walk.specs.WithdrawnPieces.{withdrawn_of}
 
 abbrev pub digest_of : Elements → List ℕ
 digest_of set = unwrap_or (digest_in set) []

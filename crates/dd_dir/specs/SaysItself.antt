@@ -12,7 +12,8 @@ use Rattle.dd_dir.specs.Own.{Listed, own}
 use Rattle.dd_dir.specs.OwnVersions.{Place, place_of, version_of}
 use Rattle.dd_walk.specs.Reading.{IsWalk}
 use Rattle.dd_walk.specs.Trees.{Walk}
-use Rattle.dd_dir.specs.Withdrawn.{AreRisingUids, withdrawn_of}
+use Rattle.dd_dir.specs.Withdrawn.{AreRisingUids}
+use Rattle.dd_walk.specs.WithdrawnPieces.{withdrawn_of}
 
 -- the path of an image: it has four parts
 abbrev pub is_of_image : Path → Bool

@@ -6,7 +6,8 @@ ghost use Rattle.dd_walk.specs.ForestViews.{walk_view};
 ghost use Rattle.dd_dir.specs.OwnVersions.{AnswersWalk, ListsSome, NamesSome, Tells};
 ghost use Rattle.dd_dir.specs.OwnVersions.{file_of, place_of, place_view, version_of};
 ghost use Rattle.dd_dir.specs.OwnViews.{AnswersRecords, IsListed, listed_view};
-ghost use Rattle.dd_dir.specs.Withdrawn.{AreRisingUids, pieces_in, withdrawn_of};
+ghost use Rattle.dd_dir.specs.Withdrawn.{AreRisingUids};
+ghost use Rattle.dd_walk.specs.WithdrawnPieces.{pieces_in, withdrawn_of};
 
 use crate::listed_images::{Above, Listed, list};
 use crate::own_fault::OwnFault;

@@ -5,7 +5,8 @@ ghost use Rattle.std.specs.List.{list_all};
 ghost use Rattle.std.specs.Ordering.{is_lt};
 ghost use Rattle.dd_elem.specs.Ordered.{bytes_cmp};
 ghost use Rattle.dd_elem.specs.Uid.{is_uid};
-ghost use Rattle.dd_dir.specs.Withdrawn.{AreRisingUids, pieces_in, pieces_of, uid_in};
+ghost use Rattle.dd_dir.specs.Withdrawn.{AreRisingUids, uid_in};
+ghost use Rattle.dd_walk.specs.WithdrawnPieces.{pieces_in, pieces_of};
 ghost use Rattle.dd_dir.specs.declared.own_fault.OwnFault.TheVariants.{BadWithdrawal};
 
 use crate::own_fault::OwnFault;

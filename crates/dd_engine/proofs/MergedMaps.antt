@@ -18,7 +18,8 @@ use Rattle.dd_dir.specs.OwnVersions.{FailsOwn, version_of}
 use Rattle.dd_walk.specs.Reading.{Refuses}
 use Rattle.dd_dir.specs.SaysItself.{SaysItself}
 use Rattle.dd_walk.specs.Trees.{Walk}
-use Rattle.dd_dir.specs.Withdrawn.{AreRisingUids, withdrawn_of}
+use Rattle.dd_dir.specs.Withdrawn.{AreRisingUids}
+use Rattle.dd_walk.specs.WithdrawnPieces.{withdrawn_of}
 use Rattle.dd_walk.proofs.WalkFiles.{walk_or_not}
 use Rattle.dd_version.specs.declared.parts.Parts.{Parts}
 use Rattle.dd_layout.specs.Limits.{Limits}

@@ -8,7 +8,8 @@ use Rattle.dd_dir.specs.Own.{Listed, own}
 use Rattle.dd_dir.specs.OwnVersions.{file_of, place_of, version_of}
 use Rattle.dd_walk.specs.Reading.{IsWalk, Refuses}
 use Rattle.dd_walk.specs.Trees.{Walk}
-use Rattle.dd_dir.specs.Withdrawn.{AreRisingUids, withdrawn_of}
+use Rattle.dd_dir.specs.Withdrawn.{AreRisingUids}
+use Rattle.dd_walk.specs.WithdrawnPieces.{withdrawn_of}
 use Rattle.dd_version.specs.declared.parts.Parts.{Parts}
 use Rattle.dd_engine.specs.declared.gathering.Gathered.{Gathered}
 use Rattle.dd_engine.specs.declared.merge.Pick.{Pick}

@@ -10,7 +10,8 @@ use Rattle.dd_dir.specs.Own.{Listed, own}
 use Rattle.dd_dir.specs.OwnVersions.{FailsOwn, Place, place_of, version_of}
 use Rattle.dd_walk.specs.Reading.{IsWalk, Refuses}
 use Rattle.dd_walk.specs.Trees.{Walk}
-use Rattle.dd_dir.specs.Withdrawn.{AreRisingUids, withdrawn_of}
+use Rattle.dd_dir.specs.Withdrawn.{AreRisingUids}
+use Rattle.dd_walk.specs.WithdrawnPieces.{withdrawn_of}
 use Rattle.dd_version.specs.declared.parts.Parts.{Parts}
 use Rattle.dd_layout.specs.Limits.{Limits}
 use Rattle.dd_layout.specs.Layouts.{layout_of}

@@ -27,7 +27,8 @@ use Rattle.dd_dir.specs.OwnVersions.{FailsOwn, version_of}
 use Rattle.dd_walk.specs.Reading.{Refuses}
 use Rattle.dd_dir.specs.SaysItself.{SaysItself}
 use Rattle.dd_walk.specs.Trees.{Walk}
-use Rattle.dd_dir.specs.Withdrawn.{AreRisingUids, withdrawn_of}
+use Rattle.dd_dir.specs.Withdrawn.{AreRisingUids}
+use Rattle.dd_walk.specs.WithdrawnPieces.{withdrawn_of}
 use Rattle.dd_walk.proofs.WalkFiles.{walk_or_not}
 use Rattle.dd_engine.specs.declared.choice.Choice.{Choice}
 use Rattle.dd_engine.specs.declared.engine.Indexed.{Indexed}

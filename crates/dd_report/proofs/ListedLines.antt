@@ -8,7 +8,7 @@ use Rattle.dd_walk.specs.declared.forest.Tree.{Tree, out-Tree, the_lemmas}
 use Rattle.dd_walk.specs.declared.forest.Forest.{Forest}
 use Rattle.dd_walk.specs.ForestViews.{tree_view, trees_view, walk_view}
 use Rattle.dd_walk.specs.Trees.{Walk, offsets}
-use Rattle.dd_dir.specs.Withdrawn.{withdrawn_of}
+use Rattle.dd_walk.specs.WithdrawnPieces.{withdrawn_of}
 use Rattle.dd_report.specs.declared.known.Form.{Form}
 use Rattle.dd_report.specs.declared.known.Form.TheVariants.{Long}
 use Rattle.dd_report.specs.Listing.{branch_lines, end_lines, lines_in, lines_of, long_listing, record_line, set_line}

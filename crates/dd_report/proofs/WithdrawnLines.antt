@@ -9,7 +9,7 @@ use Rattle.std.proofs.lemmas.List.{take_all}
 use Rattle.std.proofs.lemmas.List.Splits.{slice_split_first, slice_split_none}
 use Rattle.std.proofs.lemmas.List.Sums.{fails_before_first}
 use Rattle.std.proofs.lemmas.Grind.{flat_map-append}
-use Rattle.dd_dir.specs.Withdrawn.{pieces_in, pieces_of}
+use Rattle.dd_walk.specs.WithdrawnPieces.{pieces_in, pieces_of}
 use Rattle.dd_report.specs.Listing.{withdrawn_line, withdrawn_lines}
 use Rattle.dd_json.specs.declared.value.Style.{Style}
 use Rattle.dd_lines.specs.Telling.{Fails, GoesOn, Tells, Way}

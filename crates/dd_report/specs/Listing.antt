@@ -16,7 +16,7 @@ use Rattle.dd_version.specs.Fitting.{is_empty}
 use Rattle.dd_walk.specs.ForestViews.{Branch}
 use Rattle.dd_walk.specs.Saying.{key_of}
 use Rattle.dd_walk.specs.Trees.{Node, Trees, Walk, no_trees, offsets, tree}
-use Rattle.dd_dir.specs.Withdrawn.{withdrawn_of}
+use Rattle.dd_walk.specs.WithdrawnPieces.{withdrawn_of}
 use Rattle.dd_report.specs.declared.known.Form.{Form}
 use Rattle.dd_report.specs.declared.known.Form.TheVariants.{Short, Long}
 use Rattle.dd_report.specs.Finding.{file_in}

@@ -31,8 +31,8 @@ pub struct Listing<'a> {
     pub style: Style,
 }
 
-/// Lists a directory as `list_records` does. In the long form in JSON each record also has the path at which its file is
-/// found in the folder, or `null`. All files are looked for before the first line. Memory where an allocation is
+/// Lists a directory as `list_records` does. In the long form in JSON each record also has the path at which its file
+/// is found in the folder, or `null`. All files are looked for before the first line. Memory where an allocation is
 /// refused; nothing is printed then. Unsent where the output fails.
 pub fn list_file_set<F: FoundPaths, W: Write>(
     listing: Listing<'_>,

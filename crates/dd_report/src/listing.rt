@@ -5,7 +5,7 @@ ghost use Rattle.dd_elem.specs.Device.{counted};
 ghost use Rattle.dd_keys.specs.Values.{value_at};
 ghost use Rattle.dd_set.specs.Views.{set_view};
 ghost use Rattle.dd_walk.specs.ForestViews.{tree_view, trees_view, walk_view};
-ghost use Rattle.dd_dir.specs.Withdrawn.{pieces_in, pieces_of};
+ghost use Rattle.dd_walk.specs.WithdrawnPieces.{pieces_in, pieces_of};
 ghost use Rattle.dd_report.specs.Listing.{branch_lines, end_lines, flag_of, label_of, label_tag, lines_in, lines_of};
 ghost use Rattle.dd_report.specs.Listing.{listing, long_listing, or_dash, record_count, record_line, record_parts};
 ghost use Rattle.dd_report.specs.Listing.{set_line, set_parts, spaced, totals_line, withdrawn_line, withdrawn_lines};

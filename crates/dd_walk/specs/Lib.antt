@@ -5,3 +5,4 @@ pub mod Reading
 pub mod Saying
 pub mod Trees
 pub mod Walks
+pub mod WithdrawnPieces

@@ -8,7 +8,7 @@ use Rattle.dd_catalogue.proofs.Members.{Member, contained, member_of}
 use Rattle.dd_dir.specs.declared.own_fault.OwnFault.{OwnFault}
 use Rattle.dd_dir.specs.Own.{Listed, own}
 use Rattle.dd_dir.specs.OwnVersions.{version_of}
-use Rattle.dd_dir.specs.Withdrawn.{withdrawn_of}
+use Rattle.dd_walk.specs.WithdrawnPieces.{withdrawn_of}
 use Rattle.dd_walk.proofs.WalkFiles.{one_walk}
 use Rattle.dd_engine.specs.Merging.{AreOwn, IsOwn, SetListing, numbered, versions_in, withdrawn_in}
 use Rattle.dd_files.specs.Files.{Held}

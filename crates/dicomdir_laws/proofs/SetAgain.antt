@@ -23,7 +23,8 @@ use Rattle.dd_dir.specs.Directories.{directory, directory_of}
 use Rattle.dd_dir.specs.Own.{Listed, own}
 use Rattle.dd_dir.specs.OwnVersions.{version_of}
 use Rattle.dd_dir.specs.SaysItself.{SaysItself}
-use Rattle.dd_dir.specs.Withdrawn.{AreRisingUids, withdrawn_of}
+use Rattle.dd_dir.specs.Withdrawn.{AreRisingUids}
+use Rattle.dd_walk.specs.WithdrawnPieces.{withdrawn_of}
 use Rattle.dd_elem.specs.Ordered.{bytes_cmp}
 use Rattle.dd_engine.specs.declared.choice.Choice.{Choice}
 use Rattle.dd_engine.specs.Choosing.{label_for, uid_by}

@@ -7,7 +7,7 @@ use Rattle.dd_dir.specs.Own.{Listed}
 use Rattle.dd_dir.specs.OwnVersions.{NamesSome, version_of}
 use Rattle.dd_dir.specs.OwnViews.{IsListed, listed_view}
 use Rattle.dd_walk.specs.Trees.{Walk}
-use Rattle.dd_dir.specs.Withdrawn.{withdrawn_of}
+use Rattle.dd_walk.specs.WithdrawnPieces.{withdrawn_of}
 use Rattle.dd_dir.proofs.CheckedRecords.{listed_sound}
 use Rattle.dd_dir.proofs.ListedFirst.{walk_lists}
 use Rattle.dd_dir.proofs.ListedImages.{each_listed}

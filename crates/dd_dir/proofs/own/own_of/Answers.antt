@@ -5,7 +5,7 @@ use Rattle.dd_walk.specs.ForestViews.{walk_view}
 use Rattle.dd_dir.specs.Own.{Listed}
 use Rattle.dd_dir.specs.OwnVersions.{NamesSome, Tells}
 use Rattle.dd_dir.specs.OwnViews.{IsListed, listed_view}
-use Rattle.dd_dir.specs.Withdrawn.{withdrawn_of}
+use Rattle.dd_walk.specs.WithdrawnPieces.{withdrawn_of}
 use Rattle.dd_dir.proofs.CheckedRecords.{listed_sound}
 use Rattle.dd_dir.proofs.ListedFirst.{walk_lists}
 use Rattle.dd_dir.proofs.ListedImages.{each_listed}

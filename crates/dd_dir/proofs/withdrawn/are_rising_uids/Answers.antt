@@ -1,4 +1,4 @@
-use Rattle.dd_dir.specs.Withdrawn.{pieces_of}
+use Rattle.dd_walk.specs.WithdrawnPieces.{pieces_of}
 use Rattle.dd_dir.proofs.WithdrawnUids.{rise_decides, uids_decide}
 use Rattle.dd_dir.proofs.withdrawn.are_rising_uids.Goals as goal
 

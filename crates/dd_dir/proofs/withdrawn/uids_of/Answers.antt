@@ -3,7 +3,8 @@ use Rattle.std.proofs.lemmas.Iterator.{items_from_drains}
 use Rattle.std.proofs.lemmas.Iterator.Consumers.{YieldsList-at, YieldsList-from_filter_map}
 use Rattle.std.proofs.lemmas.Iterator.Splits.{YieldsList-from_slice_split}
 use Rattle.std.proofs.lemmas.Result.{err_from_is_err_and}
-use Rattle.dd_dir.specs.Withdrawn.{pieces_of, uid_in}
+use Rattle.dd_dir.specs.Withdrawn.{uid_in}
+use Rattle.dd_walk.specs.WithdrawnPieces.{pieces_of}
 use Rattle.dd_dir.proofs.WithdrawnUids.{map_same, some_piece, uids_taken}
 use Rattle.dd_dir.proofs.withdrawn.uids_of.Goals as goal
 

@@ -1,6 +1,6 @@
 use Rattle.std.proofs.Common.{refl}
 use Rattle.dd_walk.specs.ForestViews.{walk_view}
-use Rattle.dd_dir.specs.Withdrawn.{withdrawn_of}
+use Rattle.dd_walk.specs.WithdrawnPieces.{withdrawn_of}
 use Rattle.dd_engine.proofs.SetsGathered.{own_listing}
 use Rattle.dd_engine.proofs.gathering.own_set.Goals as goal
 
