@@ -16,6 +16,7 @@ function programModule() {
 const FAILED = {
   memory: 'The browser gave the program no more memory. Close other tabs or programs, and try again.',
   trap: 'The program ended before it was done: what it was given is beyond what it can take in this browser.',
+  line: 'One entry of this disc is longer than this page can show.',
   host: 'This page met an error of its own, and ended the program.',
   silent: 'The browser ended the program. Close other tabs or programs, and try again.',
 };

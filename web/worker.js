@@ -5,6 +5,8 @@
 
 // The most bytes of a piece, and those of the first of a file: of many files only the head is read.
 const PIECE = 4 << 20, FIRST = 1 << 18;
+// The most characters of a line: a page that took a longer one would stand still.
+const LONGEST = 4 << 20;
 // Linux's numbers and words.
 const ERRORS = {
   EPERM: [1, 'Operation not permitted'],
@@ -75,22 +77,35 @@ class Tree {
   }
 }
 
-// The lines of an output, as they end.
+// A line that is too long for the page.
+class LongLine extends Error {}
+
+// The lines of an output, as they end. One may come in any number of parts.
 class Lines {
-  #rest = '';
+  #parts = [];
+  #length = 0;
   #decoder = new TextDecoder('utf-8', { ignoreBOM: true });
 
   constructor(of) { this.of = of; }
 
-  #tell(lines) { if (lines.length > 0) postMessage({ kind: 'lines', of: this.of, lines }); }
-
-  add(bytes) {
-    const lines = (this.#rest + this.#decoder.decode(bytes, { stream: true })).split('\n');
-    this.#rest = lines.pop();
-    this.#tell(lines);
+  #tell(lines) {
+    if (lines.some((line) => line.length > LONGEST)) throw new LongLine();
+    if (lines.length > 0) postMessage({ kind: 'lines', of: this.of, lines });
   }
 
-  end() { this.#tell(this.#rest === '' ? [] : [this.#rest]); }
+  add(bytes) {
+    const text = this.#decoder.decode(bytes, { stream: true }), end = text.lastIndexOf('\n');
+    if (end >= 0) {
+      this.#tell((this.#parts.join('') + text.slice(0, end)).split('\n'));
+      this.#parts = [];
+      this.#length = 0;
+    }
+    this.#length += text.length - (end + 1);
+    if (this.#length > LONGEST) throw new LongLine();
+    if (end + 1 < text.length) this.#parts.push(text.slice(end + 1));
+  }
+
+  end() { this.#tell(this.#parts.length > 0 ? [this.#parts.join('')] : []); }
 }
 
 // The calls of c/host.h. A call that waits gives a request in place of a number: a message, what of it is transferred, and
@@ -345,6 +360,7 @@ async function run(start) {
 
 // Engines say in different ways that there is no memory, and that the stack is full.
 function why(error) {
+  if (error instanceof LongLine) return 'line';
   if (error instanceof WebAssembly.RuntimeError || /stack|recursion/i.test(error?.message)) return 'trap';
   return error instanceof RangeError || /memory/i.test(error?.message) ? 'memory' : 'host';
 }
