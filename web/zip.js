@@ -1,5 +1,5 @@
 // A zip whose files are stored as they are (APPNOTE.TXT 6.3, with zip64). It is a Blob of pieces, which the browser may
-// keep on its disc: what is in memory is one piece, and 46 bytes and the name of each file.
+// keep on its disc: what is in memory is two pieces, and 46 bytes and the name of each file.
 
 const CRC_TABLE = Uint32Array.from({ length: 256 }, (_, byte) => {
   let rest = byte;
@@ -14,6 +14,8 @@ function crcOf(bytes, before = 0) {
   return ~rest >>> 0;
 }
 
+// From so many bytes on a piece is a Blob: one for each small file would take longer than all else.
+const ZIP_PIECE = 4 << 20;
 const MOST_32 = 0xffffffff, MOST_16 = 0xffff, ZIP64 = 45, UTF8_NAMES = 0x0800;
 // 1980-01-01, the first day that a zip can name: the same files give the same zip.
 const FIRST_DAY = 0x21;
@@ -34,6 +36,9 @@ function numbers(...fields) {
 class Zip {
   constructor() {
     this.parts = [];
+    // What comes next, and its bytes that no Blob has yet.
+    this.small = [];
+    this.waiting = 0;
     this.central = [];
     this.size = 0;
     this.count = 0;
@@ -46,7 +51,16 @@ class Zip {
     const file = this.files.get(number);
     file.crc = crcOf(bytes, file.crc);
     file.size += bytes.length;
-    file.pieces.push(new Blob([bytes]));
+    file.pieces.push(bytes.length < ZIP_PIECE ? bytes : new Blob([bytes]));
+  }
+
+  add(part) {
+    this.small.push(part);
+    this.waiting += part.byteLength ?? 0;
+    if (this.waiting < ZIP_PIECE) return;
+    this.parts.push(new Blob(this.small));
+    this.small = [];
+    this.waiting = 0;
   }
 
   close(number) {
@@ -63,7 +77,7 @@ class Zip {
     const head = numbers([4, 0x04034b50], ...shared(isLong ? ZIP64 : 20), [2, lengthOf(local)]);
     this.central.push(numbers([4, 0x02014b50], [2, ZIP64], ...shared(places.length ? ZIP64 : 20), [2, lengthOf(more)], [2, 0], [2, 0],
       [2, 0], [4, 0], [4, isFar ? MOST_32 : this.size]), name, numbers(...more));
-    this.parts.push(head, name, numbers(...local), ...pieces);
+    for (const part of [head, name, numbers(...local), ...pieces]) this.add(part);
     this.size += head.byteLength + name.length + lengthOf(local) + size;
     this.count++;
   }
@@ -77,6 +91,6 @@ class Zip {
     const count = Math.min(this.count, MOST_16);
     const end = numbers([4, 0x06054b50], [2, 0], [2, 0], [2, count], [2, count], [4, Math.min(length, MOST_32)],
       [4, Math.min(this.size, MOST_32)], [2, 0]);
-    return new Blob([...this.parts, ...this.central, ...large, end], { type: 'application/zip' });
+    return new Blob([...this.parts, ...this.small, ...this.central, ...large, end], { type: 'application/zip' });
   }
 }
