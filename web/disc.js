@@ -49,6 +49,8 @@ function fillRow(it, record) {
 
 const tree = new Tree($('tree'), fillRow, showDetails);
 
+const NO_FILES = 'That folder has no files.';
+
 function say(text) { $('said').textContent = text; }
 
 /** Shows one of the parts of the page for discs: where it is chosen, what was refused, or the disc. */
@@ -62,7 +64,7 @@ async function openFiles(files) {
   const sets = setsOf(files);
   if (sets.length === 1) return openSet(files, sets[0]);
   if (!sets.length) return refuseWithout(files);
-  $('sets').querySelector('ul').replaceChildren(...sets.map((folder) => element('li', {},
+  $('sets').querySelector('ul').replaceChildren(...sets.slice(0, AT_ONCE).map((folder) => element('li', {},
     element('button', { type: 'button', onclick: () => openSet(files, folder) }, disc(folder)))));
   showPart('sets');
   return undefined;
@@ -77,18 +79,23 @@ function leaveDisc() {
   $('search').value = '';
   $('matches').textContent = '';
   $('details').replaceChildren();
-  for (const id of ['progress', 'result', 'unnamed', 'check', 'save-check']) $(id).hidden = true;
+  for (const id of ['progress', 'result', 'unnamed', 'check', 'save-list', 'save-check', 'print']) $(id).hidden = true;
   $('unnamed').open = false;
   say('');
   showPart('first');
 }
 
-function refuseWithout(files) {
-  const offer = files.length ? [offerToMake(files)] : [];
-  $('refused').replaceChildren(element('h2', {}, 'There is no DICOMDIR here'),
-    element('p', {}, `Among the ${counted(files.length, 'file')} that you chose none is the directory of a disc. ` +
-      'Choose the top folder of the disc, which has a file DICOMDIR.'), ...offer);
+/** Says why there is no disc to see, and forgets what came of it. */
+function showRefusal(title, files, ...parts) {
+  leaveDisc();
+  $('refused').replaceChildren(element('h2', {}, title), ...parts, ...(files.length ? [offerToMake(files)] : []));
   showPart('refused');
+}
+
+function refuseWithout(files) {
+  showRefusal('There is no DICOMDIR here', files,
+    element('p', {}, `Among the ${counted(files.length, 'file')} that you chose none is the directory of a disc. ` +
+      'Choose the top folder of the disc, which has a file DICOMDIR.'));
 }
 
 /** A button that makes a new set of these files. */
@@ -138,11 +145,12 @@ async function openSet(files, folder) {
   Object.assign(open, { files, folder, directory });
   const last = folder.slice(folder.lastIndexOf('/') + 1);
   $('disc-name').replaceChildren(disc(last || 'Disc'));
+  $('disc-counts').textContent = '';
   showPart('disc');
   say('Reading the directory…');
   const errors = [], taker = new LineTaker(directory);
   const run = new Run(['list', '--long', '--verbose', '--json', '--', folder || '.'], files, {
-    lines: (some) => { if (!taker.give(some)) { run.stop(); refuseRun('This directory is longer than this page can show.', '', files); } },
+    lines: (some) => { if (!taker.give(some)) refuseRun('This directory is longer than this page can show.', '', files); },
     errors: (some) => errors.push(...some),
   });
   open.run = run;
@@ -154,6 +162,12 @@ async function openSet(files, folder) {
   if (result.status === 0) listed(directory, result);
   else if (result.failed) refuseRun(result.failed, result.text, files);
   else refuse(faultOf(errors), files);
+}
+
+/** Goes to a heading that is new, unless a person is at work in the disc already. */
+function goTo(heading) {
+  const isAtWork = ['.tools', '.split'].some((part) => document.querySelector(part).contains(document.activeElement));
+  if (!isAtWork) heading.focus({ preventScroll: true });
 }
 
 function takeLine(directory, line) {
@@ -170,13 +184,12 @@ function takeLine(directory, line) {
 function listed(directory, result) {
   open.openedByList = result.opened || [];
   if (directory.records.length <= OPENED) for (const record of directory.records) record.isOpen = true;
-  $('check').hidden = false;
+  for (const id of ['check', 'save-list', 'print']) $(id).hidden = false;
   $('check').textContent = 'Check all files';
   $('check').className = 'main';
   showCounts(directory);
-  tree.refresh();
-  if (tree.active) showDetails(tree.active);
-  $('disc-name').focus({ preventScroll: true });
+  if ($('search').value) search(); else tree.refresh();
+  goTo($('disc-name'));
 }
 
 function showCounts(directory) {
@@ -202,7 +215,7 @@ function faultOf(errors) {
 function faultParts({ fault, help, cause, path }) {
   const found = FAULT_WORDS.find((it) => it.first <= fault.number && fault.number <= it.last);
   return [
-    element('p', { class: 'fault' }, element('code', {}, plain(fault.words)), ...(path ? [' ', disc(path)] : [])),
+    element('p', { class: 'fault' }, element('code', {}, plain(fault.words)), ...(path ? [' in ', disc(path)] : [])),
     ...(cause ? [element('p', {}, plain(cause))] : []),
     ...(help ? [element('p', {}, element('strong', {}, 'What to do: '), plain(help))] : []),
     ...(found ? [element('details', {}, element('summary', {}, 'What this means'), element('p', {}, found.says),
@@ -212,19 +225,14 @@ function faultParts({ fault, help, cause, path }) {
 
 /** The program refused the directory. */
 function refuse(line, files) {
-  $('refused').replaceChildren(element('h2', {}, 'This directory can’t be read'), ...faultParts(line),
-    element('p', {}, 'The images may be whole all the same: a new DICOMDIR can be made of them.'), offerToMake(files));
-  showPart('refused');
+  showRefusal('This directory can’t be read', files, ...faultParts(line),
+    element('p', {}, 'The images may be whole all the same: a new DICOMDIR can be made of them.'));
 }
 
 /** The run ended without a status. */
 function refuseRun(words, text, files) {
-  open.run = null;
-  say('');
-  $('refused').replaceChildren(element('h2', {}, 'This disc can’t be shown'), element('p', {}, words),
-    ...(text ? [element('details', {}, element('summary', {}, 'What the browser says'), element('p', {}, plain(text)))] : []),
-    offerToMake(files));
-  showPart('refused');
+  showRefusal('This disc can’t be shown', files, element('p', {}, words),
+    ...(text ? [element('details', {}, element('summary', {}, 'What the browser says'), element('p', {}, plain(text)))] : []));
 }
 
 function search() {
@@ -243,7 +251,7 @@ $('search').addEventListener('input', search);
 $('choose').addEventListener('change', (event) => {
   const files = chosenFiles(event.target.files);
   event.target.value = '';
-  if (files.length) openFiles(files);
+  if (files.length) openFiles(files); else say(NO_FILES);
 });
 $('another').addEventListener('click', () => { leaveDisc(); $('choose').focus(); });
 $('save-list').addEventListener('click', () => saveLines(open.directory.lines, 'list'));

@@ -3,30 +3,44 @@
 // The names that systems show of a DICOMDIR (docs/DISCS.md): the program takes the first that is there.
 const DIRECTORY_NAME = /^(DICOMDIR|dicomdir)(\.;1|;1|\.)?$/;
 
-/** What a file input gives: below a folder with its path, else by its name. */
-function chosenFiles(list) {
-  return [...list].map((file) => ({ path: file.webkitRelativePath || file.name, file }));
+/** Gives names that are apart: what was found by a search may have one name in several folders. */
+class Names {
+  #taken = new Set();
+
+  apart(name) {
+    let free = name;
+    for (let number = 2; this.#taken.has(free); number++) free = `${name} (${number})`;
+    this.#taken.add(free);
+    return free;
+  }
 }
 
-/** All files of what was dropped, folders with what is in them. The entries have to be asked for at once. */
-async function droppedFiles(items) {
-  const entries = [...items].map((item) => item.webkitGetAsEntry?.()).filter(Boolean);
-  const files = [];
-  for (const entry of entries) await walk(entry, files);
+/** What a file input gives: below a folder with its path, else by its name. */
+function chosenFiles(list) {
+  const names = new Names();
+  return [...list].map((file) => ({ path: names.apart(file.webkitRelativePath || file.name), file }));
+}
+
+/** What was dropped: files and folders. It has to be asked for at once. */
+const droppedEntries = (items) => [...items].map((item) => item.webkitGetAsEntry?.()).filter(Boolean);
+
+/** All files of these entries, folders with what is in them. */
+async function filesOf(entries) {
+  const files = [], names = new Names();
+  for (const entry of entries) await walk(entry, names.apart(entry.name), files);
   return files;
 }
 
-async function walk(entry, files) {
+async function walk(entry, path, files) {
   if (entry.isFile) {
-    const file = await new Promise((take, refuse) => { entry.file(take, refuse); });
-    files.push({ path: entry.fullPath.replace(/^\//, ''), file });
+    files.push({ path, file: await new Promise((take, refuse) => { entry.file(take, refuse); }) });
     return;
   }
   const reader = entry.createReader();
   for (;;) {
     const some = await new Promise((take, refuse) => { reader.readEntries(take, refuse); });
     if (!some.length) return;
-    for (const one of some) await walk(one, files);
+    for (const one of some) await walk(one, `${path}/${one.name}`, files);
   }
 }
 
@@ -36,7 +50,7 @@ const depthOf = (path) => path.split('/').length;
 /** The folders with a DICOMDIR that are nearest to the top of what was chosen. */
 function setsOf(files) {
   const found = files.filter(({ path }) => DIRECTORY_NAME.test(path.slice(path.lastIndexOf('/') + 1)));
-  const least = Math.min(...found.map(({ path }) => depthOf(path)));
+  const least = found.reduce((depth, { path }) => Math.min(depth, depthOf(path)), Infinity);
   return [...new Set(found.filter(({ path }) => depthOf(path) === least).map(({ path }) => folderOf(path)))].sort();
 }
 

@@ -31,14 +31,26 @@ function pressTab(event) {
   event.preventDefault();
 }
 
+let drops = 0;
+
 async function drop(event) {
   event.preventDefault();
   document.body.classList.remove('over');
-  const isMaking = !$('make').hidden;
+  const entries = droppedEntries(event.dataTransfer.items), isMaking = !$('make').hidden, number = ++drops;
+  if (!entries.length) return;
+  const tell = isMaking ? sayMaking : say;
+  tell('Reading the folder…');
   let files;
-  try { files = await droppedFiles(event.dataTransfer.items); } catch (error) { files = []; say(`What was dropped can’t be read: ${plain(error.message)}`); }
-  if (!files.length) return;
-  if (isMaking) planSet(files); else openFiles(files);
+  try {
+    files = await filesOf(entries);
+  } catch (error) {
+    if (number === drops) tell(`What was dropped can’t be read: ${plain(error.message)}`);
+    return;
+  }
+  // What was dropped later goes first.
+  if (number !== drops) return;
+  tell('');
+  if (!files.length) tell(NO_FILES); else if (isMaking) planSet(files); else openFiles(files);
 }
 
 // No link and no form of this page leads anywhere, whatever may come to stand in it.
