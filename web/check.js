@@ -18,7 +18,7 @@ class Progress {
     if (share && performance.now() - this.shown < 400) return;
     this.shown = performance.now();
     const seconds = (performance.now() - this.since) / 1000, left = seconds * (1 - share) / share;
-    this.bar.value = Math.min(1, share);
+    this.bar.value = Math.min(1, share || 0);
     this.text.textContent = what + (seconds > 2 && share > 0.01 && share < 1 ? `, ${lasting(left)} left` : '');
   }
 
@@ -90,6 +90,7 @@ function showResult(check, result, errors) {
   const { directory } = open;
   const kinds = [...check.found].filter(([kind]) => STATES.has(kind));
   const bad = kinds.reduce((sum, [kind, number]) => sum + (kind === 'NODIGEST' ? 0 : number), 0);
+  const isSound = check.isWhole && !bad && directory.files > 0 && !check.found.get('NODIGEST');
   const parts = [element('h3', { tabindex: '-1', id: 'verdict' }, verdictOf(check, result, bad))];
   const unreached = check.found.get('UNREACHED');
   if (unreached) parts.push(element('p', {}, `${counted(unreached, 'record')} of the directory can’t be reached: a viewer does not show what they name.`));
@@ -97,26 +98,26 @@ function showResult(check, result, errors) {
     parts.push(element('p', {}, 'The writer of this disc recorded no SHA-256 of its files, so a changed pixel can’t be found.'));
   }
   if (kinds.length) {
-    parts.push(element('p', { class: 'kinds', role: 'group', 'aria-label': 'Show only files that are' }, ...kinds.map(([kind, number]) =>
+    parts.push(element('p', { class: 'kinds', role: 'group', 'aria-label': 'Show only files that are' }, element('span', {}, 'Show only:'), ...kinds.map(([kind, number]) =>
       element('button', { type: 'button', 'aria-pressed': 'false', class: STATES.get(kind).look, 'data-kind': kind,
         onclick: () => showKind(check, kind) }, `${number.toLocaleString('en')} ${STATES.get(kind).text}`))));
   }
   const line = !check.isWhole && !result.isStopped && !result.failed ? faultOf(errors) : null;
   if (line) parts.push(...faultParts(line));
-  $('result').className = `banner ${!check.isWhole || check.found.get('NODIGEST') && !bad ? 'note' : bad || unreached ? 'bad' : 'good'}`;
-  if (bad || unreached || line || result.failed) $('result').className = 'banner bad';
+  $('result').className = `banner ${bad || unreached || line || result.failed ? 'bad' : isSound ? 'good' : 'note'}`;
   $('result').replaceChildren(...parts);
   $('result').hidden = false;
   $('save-check').hidden = !check.isWhole;
   if (check.isWhole) showUnnamed(check);
-  $('verdict').focus({ preventScroll: true });
+  goTo($('verdict'));
 }
 
 function verdictOf(check, result, bad) {
-  const { files } = open.directory;
+  const files = Math.max(bad, open.directory.files);
   if (result.isStopped) return 'Stopped: not all files were checked.';
   if (result.failed) return `Not all files were checked. ${result.failed}`;
   if (!check.isWhole) return 'The check was refused.';
+  if (!files && !bad) return 'This directory names no files: there is nothing to check.';
   if (bad) return `${bad.toLocaleString('en')} of ${counted(files, 'file')} ${bad === 1 ? 'is' : 'are'} not as recorded.`;
   if (check.found.get('UNREACHED')) return `All ${counted(files, 'file')} that can be reached are there.`;
   if (check.found.get('NODIGEST')) return `All ${counted(files, 'file')} are there and can be read.`;
@@ -137,11 +138,17 @@ function unnamedFiles(check) {
   return files.filter(({ path }, at) => !known.has(at) && !isDirectoryOf(path, folder)).map(({ path }) => path);
 }
 
+/** The program reads no file of a record that is not in use. */
+function unnamedText(check) {
+  const hasUnused = open.directory.records.some((record) => !record.inUse && record.file !== undefined);
+  return `${counted(check.unnamed.length, 'file')} that no record ${hasUnused ? 'in use ' : ''}names`;
+}
+
 function showUnnamed(check) {
   check.unnamed = unnamedFiles(check);
   $('unnamed').hidden = !check.unnamed.length;
   if (!check.unnamed.length) return;
-  const list = element('ul'), [, box] = $('unnamed').children;
+  const list = element('ul', { tabindex: check.unnamed.length > 10 && '0' }), [, box] = $('unnamed').children;
   const more = element('button', { type: 'button' });
   const add = () => {
     const from = list.childElementCount;
@@ -151,7 +158,7 @@ function showUnnamed(check) {
   };
   more.onclick = add;
   add();
-  $('unnamed').firstElementChild.textContent = `${counted(check.unnamed.length, 'file')} that no record names`;
+  $('unnamed').firstElementChild.textContent = unnamedText(check);
   box.replaceChildren(element('p', { class: 'hint' }, 'A disc often has more than images, such as a viewer. A viewer that goes by the DICOMDIR does not show these.'), list, more);
 }
 

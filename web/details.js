@@ -33,6 +33,7 @@ function findingParts(finding) {
 const MOST_ELEMENTS = 200, MOST_VALUES = 50;
 
 function showDetails(record) {
+  if (!record) { $('details').replaceChildren(); return; }
   const kind = KINDS.get(record.type);
   const list = element('dl');
   const add = (name, texts) => list.append(element('dt', {}, name), ...texts.map((text) => {

@@ -1,4 +1,5 @@
-// What is printed: the disc, the result of the check, and all rows that are open in the tree, not those in view alone.
+// What is printed of a disc: the result of the check, and all rows that are open in the tree, not those in view alone.
+// Without a disc the page is printed as it stands.
 
 function fillPaper() {
   const { directory, check } = open;
@@ -7,25 +8,38 @@ function fillPaper() {
     element('p', {}, `File-set UID ${plain(directory.uid)}. Printed on ${new Date().toLocaleString()} by dicomdir.`)];
   if (check?.isWhole) {
     parts.push(element('h2', {}, $('verdict').textContent));
-    if (check.unnamed?.length) parts.push(element('p', {}, `${counted(check.unnamed.length, 'file')} that no record names.`));
+    if (check.unnamed?.length) parts.push(element('p', {}, `${unnamedText(check)}.`));
     const found = directory.records.filter((record) => record.finding);
-    if (found.length) {
-      parts.push(element('table', {}, element('tbody', {}, ...found.map((record) => element('tr', {},
-        element('td', {}, stateOf(record).text), element('td', {}, disc(record.file || '')),
-        element('td', {}, ...[...record.upwards()].reverse().flatMap((above) => [disc(above.parts[0]), ' ']))))))); 
-    }
+    if (found.length) parts.push(paperTable(found, foundRow));
   } else {
     parts.push(element('p', {}, 'The files were not checked.'));
   }
-  parts.push(element('table', {}, element('tbody', {}, ...tree.rows.map(({ record }) => {
-    const title = element('td', { style: `padding-inline-start: ${1.2 * Math.min(record.level, 12)}em` });
-    record.parts.forEach((part, at) => title.append(at ? ' · ' : '', disc(part)));
-    return element('tr', {}, title, element('td', {}, record.below.length ? counted(record.files, 'file') : ''),
-      element('td', {}, stateOf(record)?.text || ''));
-  }))));
+  parts.push(paperTable(tree.rows, ({ record }) => treeRow(record)));
   $('paper').replaceChildren(...parts);
+  document.body.classList.add('on-paper');
+}
+
+function paperTable(all, rowOf) {
+  const body = element('tbody');
+  for (const one of all) body.append(rowOf(one));
+  return element('table', {}, body);
+}
+
+function foundRow(record) {
+  const above = [...record.upwards()].reverse().flatMap((it) => [disc(it.parts[0]), ' ']);
+  return element('tr', {}, element('td', {}, stateOf(record).text), element('td', {}, disc(record.file || '')), element('td', {}, ...above));
+}
+
+function treeRow(record) {
+  const title = element('td', { style: `padding-inline-start: ${1.2 * Math.min(record.level, 12)}em` });
+  record.parts.forEach((part, at) => title.append(at ? ' · ' : '', disc(part)));
+  return element('tr', {}, title, element('td', {}, record.below.length ? counted(record.files, 'file') : ''),
+    element('td', {}, stateOf(record)?.text || ''));
 }
 
 window.addEventListener('beforeprint', fillPaper);
-window.addEventListener('afterprint', () => $('paper').replaceChildren());
+window.addEventListener('afterprint', () => {
+  $('paper').replaceChildren();
+  document.body.classList.remove('on-paper');
+});
 $('print').addEventListener('click', () => window.print());

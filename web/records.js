@@ -6,7 +6,7 @@ const TAG = { name: '00100010', id: '00100020', birth: '00100030', date: '000800
 // What the page calls the types of records that most discs have. Others keep the name that the directory gives them.
 const KINDS = new Map([['PATIENT', 'Patient'], ['STUDY', 'Study'], ['SERIES', 'Series'], ['IMAGE', 'Image']]);
 // Tags that the page beside the tree names in words.
-const TAG_NAMES = { '00041410': 'In use', '00041430': 'Type of record', '00041500': 'File', '00041510': 'SOP Class UID',
+const TAG_NAMES = { '00020002': 'SOP Class UID', '00020003': 'SOP Instance UID', '00020010': 'Transfer syntax', '00041410': 'In use', '00041430': 'Type of record', '00041500': 'File', '00041510': 'SOP Class UID',
   '00041511': 'SOP Instance UID', '00041512': 'Transfer syntax', '00080005': 'Character set', '00080012': 'Created on',
   '00080016': 'SOP Class UID', '00080018': 'SOP Instance UID', '00080020': 'Study date', '00080021': 'Series date',
   '00080022': 'Acquisition date', '00080023': 'Content date', '00080030': 'Study time', '00080031': 'Series time',

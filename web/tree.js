@@ -11,7 +11,7 @@ class Row {
 }
 
 class Tree {
-  /** `fill(element, record)` makes the contents of a row, and `choose(record)` is called for the one that is active. */
+  /** `fill(element, record)` makes the contents of a row; `choose(record)` is called for the one that is active, or null. */
   constructor(box, fill, choose) {
     Object.assign(this, { box, fill, choose });
     this.space = element('div', { class: 'space', role: 'presentation' });
@@ -96,7 +96,9 @@ class Tree {
     add(this.roots, false);
     this.rows = rows;
     this.places = null;
-    if (!this.active || this.placeOf(this.active) < 0) this.active = rows.length ? rows[0].record : null;
+    const isGone = !this.active || this.placeOf(this.active) < 0, old = this.active;
+    if (isGone) this.active = rows.length ? rows[0].record : null;
+    if (this.active !== old) this.choose(this.active);
     this.space.style.height = `${rows.length * (this.height || 0)}px`;
     for (const [record, it] of this.elements) {
       const place = this.placeOf(record);
