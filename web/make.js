@@ -1,7 +1,10 @@
 // Makes a file-set of chosen files, by 'index': first what it would make, then the images and the directory.
 
-/** The files that were chosen, what the dry run said of them, and what runs. */
-const making = { files: [], words: [], run: null, plan: null };
+/** The files that were chosen, what runs, and whether that saves. */
+const making = { files: [], run: null, isSaving: false };
+
+// What systems put onto a stick by themselves. No name of a set is one of these.
+const OF_SYSTEMS = /^(\..*|System Volume Information|\$RECYCLE\.BIN|desktop\.ini|Thumbs\.db|LOST\.DIR|lost\+found)$/i;
 
 /** A folder's name that none of the files has. */
 function freeName(files) {
@@ -44,6 +47,7 @@ async function runIndex(isDry, what, on = {}) {
 
 /** Asks the program what it would make of these files. */
 async function planSet(files) {
+  if (making.isSaving) { sayMaking('These files wait until what is being saved is saved or stopped: then choose them again.'); return; }
   making.files = files;
   $('plan').hidden = true;
   $('again').hidden = false;
@@ -54,11 +58,15 @@ async function planSet(files) {
   sayMaking('');
   if (result.isStopped) { sayMaking('Stopped.'); return; }
   const plan = lines.find((it) => it.line === 'PLAN');
-  making.plan = plan;
   $('plan').replaceChildren(...(result.failed ? [failedCard(result)] : result.status === 0 && plan ? planCards(plan) : [refusedCard(errors)]), ...leftCards(lines));
   $('plan').hidden = false;
   $('plan').querySelector('h2')?.focus({ preventScroll: true });
 }
+
+// Why files are skipped, above the program's words, by the number of the fault (docs/FAULTS.md).
+const SKIPPED = new Map([[31, 'no DICOM file, cut, or in a form that is not taken'], [32, 'of a class that is not taken'],
+  [33, 'a key is missing'], [34, 'a key is no UID'], [35, 'a key is too long'], [36, 'a key is a sequence'],
+  [37, 'a key is not as in the head of the file'], [39, 'too large']]);
 
 const heading = (text) => element('h2', { tabindex: '-1' }, text);
 
@@ -105,7 +113,7 @@ function leftCards(lines) {
   }
   for (const [number, some] of groups) {
     const found = FAULT_WORDS.find((it) => it.first <= number && number <= it.last);
-    cards.push(listCard(`${counted(some.length, 'file')} skipped: ${number} ${some[0].fault.name}`, some,
+    cards.push(listCard(`${counted(some.length, 'file')} skipped: ${SKIPPED.get(number) || plain(some[0].fault.name)}`, some,
       (it) => [disc(it.path), ' ', element('code', {}, plain(it.fault.words))], found && `${found.says} ${found.todo}`));
   }
   return cards;
@@ -121,7 +129,7 @@ function noteParts(it) {
 
 /** A list that shows some of its items at once, and more by a click. */
 function listCard(title, items, partsOf, help) {
-  const list = element('ul'), more = element('button', { type: 'button' });
+  const list = element('ul', { tabindex: items.length > 10 && '0' }), more = element('button', { type: 'button' });
   const add = () => {
     const from = list.childElementCount;
     list.append(...items.slice(from, from + AT_ONCE).map((it) => element('li', {}, ...partsOf(it))));
@@ -150,8 +158,14 @@ async function saveToZip() {
 async function saveToFolder() {
   let top;
   try { top = await window.showDirectoryPicker({ mode: 'readwrite' }); } catch { return; }
-  for await (const name of top.keys()) {
-    sayMaking(`That folder is not empty: it has ${plain(name)}. Choose an empty one.`);
+  try {
+    for await (const name of top.keys()) {
+      if (OF_SYSTEMS.test(name)) continue;
+      sayMaking(`That folder is not empty: it has ${plain(name, ROW_LENGTH)}. Choose an empty one.`);
+      return;
+    }
+  } catch (error) {
+    sayMaking(`That folder can’t be read: ${plain(error.message)}`);
     return;
   }
   const folder = new Folder(top);
@@ -161,7 +175,8 @@ async function saveToFolder() {
     write: (number, bytes) => folder.write(number, bytes),
     close: (number) => folder.close(number),
   });
-  if (ran) sayMaking(`Saved: ${counted(ran.instances, 'image')} and their DICOMDIR. Open the folder here to check it.`);
+  folder.leave();
+  if (ran) sayMaking(`Saved: ${counted(ran.instances, 'image')} and their DICOMDIR. To check it, choose that folder under “Open a disc”.`);
 }
 
 const withoutTop = (path) => path.slice(path.indexOf('/') + 1);
@@ -169,9 +184,12 @@ const withoutTop = (path) => path.slice(path.indexOf('/') + 1);
 /** Runs index for good. Answers its line DONE; else says why there is none. */
 async function save(what, on) {
   sayMaking('');
-  const ran = await runIndex(false, what, on);
-  if (!ran) return null;
-  const { result, lines, errors } = ran;
+  setSaving(true);
+  const begun = runIndex(false, what, on);
+  $('make-stop').focus();
+  const { result, lines, errors } = await begun;
+  setSaving(false);
+  $('plan').querySelector('h2')?.focus({ preventScroll: true });
   const done = lines.find((it) => it.line === 'DONE');
   if (result.status === 0 && done) return done;
   if (result.isStopped) sayMaking('Stopped: what was saved so far is not whole.');
@@ -179,11 +197,17 @@ async function save(what, on) {
   return null;
 }
 
+/** Nothing else is begun while files are saved. */
+function setSaving(isSaving) {
+  making.isSaving = isSaving;
+  for (const one of $('make').querySelectorAll('input, button:not(#make-stop)')) one.disabled = isSaving;
+}
+
 for (const id of ['folder', 'images']) {
   $(id).addEventListener('change', (event) => {
     const files = chosenFiles(event.target.files);
     event.target.value = '';
-    if (files.length) planSet(files);
+    if (files.length) planSet(files); else sayMaking(NO_FILES);
   });
 }
 $('make-stop').addEventListener('click', () => making.run?.stop());

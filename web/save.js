@@ -40,6 +40,12 @@ class Folder {
     this.files.set(number, made);
   }
 
+  /** Gives up what was begun and not ended. */
+  leave() {
+    for (const made of this.files.values()) made.then((file) => file.abort()).catch(() => {});
+    this.files.clear();
+  }
+
   async write(number, bytes) { await (await this.files.get(number)).write(bytes); }
 
   async close(number) {
