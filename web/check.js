@@ -33,7 +33,8 @@ function namedBytes(directory, files, folder) {
   for (const { path, file } of files) sizes.set(plainName(path.slice(start)), file.size);
   let bytes = 0;
   for (const record of directory.records) {
-    if (record.file !== undefined && record.inUse) bytes += sizes.get(plainName(record.file.replaceAll('\\', '/'))) || 0;
+    if (record.file === undefined || !record.inUse) continue;
+    bytes += sizes.get(plainName(record.file.replaceAll('\\', '/'))) || 0;
   }
   return bytes;
 }
@@ -50,11 +51,16 @@ async function checkDisc() {
   const errors = [];
   const run = new Run(['check', '--keys', '--strict', '--verbose', '--json', '--', folder || '.'], files, {
     ahead: new Ahead(files, true),
-    lines: (some) => { check.lines.push(...some); for (const line of some) noteFinding(check, JSON.parse(line)); refreshSoon(); },
+    lines: (some) => {
+      check.lines.push(...some);
+      for (const line of some) noteFinding(check, JSON.parse(line));
+      refreshSoon();
+    },
     errors: (some) => errors.push(...some),
     progress: ({ bytes, opened }) => {
       const done = Math.min(directory.files, Math.max(0, opened - 1));
-      progress.show((bytes + OPENING * done) / all, `Checked ${done.toLocaleString('en')} of ${counted(directory.files, 'file')}`);
+      const what = `Checked ${done.toLocaleString('en')} of ${counted(directory.files, 'file')}`;
+      progress.show((bytes + OPENING * done) / all, what);
     },
   });
   open.run = run;
@@ -76,7 +82,8 @@ async function checkDisc() {
 
 /** Takes a line of check --json. */
 function noteFinding(check, finding) {
-  check.found.set(finding.line, (check.found.get(finding.line) || 0) + (finding.line === 'UNREACHED' ? finding.items : 1));
+  const number = finding.line === 'UNREACHED' ? finding.items : 1;
+  check.found.set(finding.line, (check.found.get(finding.line) || 0) + number);
   open.directory.note(finding);
 }
 
@@ -93,12 +100,17 @@ function showResult(check, result, errors) {
   const isSound = check.isWhole && !bad && directory.files > 0 && !check.found.get('NODIGEST');
   const parts = [element('h3', { tabindex: '-1', id: 'verdict' }, verdictOf(check, result, bad))];
   const unreached = check.found.get('UNREACHED');
-  if (unreached) parts.push(element('p', {}, `${counted(unreached, 'record')} of the directory can’t be reached: a viewer does not show what they name.`));
+  if (unreached) {
+    parts.push(element('p', {}, `${counted(unreached, 'record')} of the directory can’t be reached: ` +
+      'a viewer does not show what they name.'));
+  }
   if (check.found.get('NODIGEST') && !bad && check.isWhole) {
-    parts.push(element('p', {}, 'The writer of this disc recorded no SHA-256 of its files, so a changed pixel can’t be found.'));
+    parts.push(element('p', {}, 'The writer of this disc recorded no SHA-256 of its files, ' +
+      'so a changed pixel can’t be found.'));
   }
   if (kinds.length) {
-    parts.push(element('p', { class: 'kinds', role: 'group', 'aria-label': 'Show only files that are' }, element('span', {}, 'Show only:'), ...kinds.map(([kind, number]) =>
+    parts.push(element('p', { class: 'kinds', role: 'group', 'aria-label': 'Show only files that are' },
+      element('span', {}, 'Show only:'), ...kinds.map(([kind, number]) =>
       element('button', { type: 'button', 'aria-pressed': 'false', class: STATES.get(kind).look, 'data-kind': kind,
         onclick: () => showKind(check, kind) }, `${number.toLocaleString('en')} ${STATES.get(kind).text}`))));
   }
@@ -118,7 +130,9 @@ function verdictOf(check, result, bad) {
   if (result.failed) return `Not all files were checked. ${result.failed}`;
   if (!check.isWhole) return 'The check was refused.';
   if (!files && !bad) return 'This directory names no files: there is nothing to check.';
-  if (bad) return `${bad.toLocaleString('en')} of ${counted(files, 'file')} ${bad === 1 ? 'is' : 'are'} not as recorded.`;
+  if (bad) {
+    return `${bad.toLocaleString('en')} of ${counted(files, 'file')} ${bad === 1 ? 'is' : 'are'} not as recorded.`;
+  }
   if (check.found.get('UNREACHED')) return `All ${counted(files, 'file')} that can be reached are there.`;
   if (check.found.get('NODIGEST')) return `All ${counted(files, 'file')} are there and can be read.`;
   return files === 1 ? 'The file is there and unchanged.' : `All ${counted(files, 'file')} are there and unchanged.`;
@@ -127,7 +141,9 @@ function verdictOf(check, result, bad) {
 /** Shows the files with this finding alone, or all again. */
 function showKind(check, kind) {
   check.shown = check.shown === kind ? null : kind;
-  for (const one of $('result').querySelectorAll('[data-kind]')) one.setAttribute('aria-pressed', one.dataset.kind === check.shown);
+  for (const one of $('result').querySelectorAll('[data-kind]')) {
+    one.setAttribute('aria-pressed', one.dataset.kind === check.shown);
+  }
   search();
 }
 
@@ -153,13 +169,15 @@ function showUnnamed(check) {
   const add = () => {
     const from = list.childElementCount;
     list.append(...check.unnamed.slice(from, from + AT_ONCE).map((path) => element('li', {}, disc(path))));
-    more.textContent = `Show ${counted(Math.min(AT_ONCE, check.unnamed.length - list.childElementCount), 'more', 'more')}`;
+    const rest = check.unnamed.length - list.childElementCount;
+    more.textContent = `Show ${counted(Math.min(AT_ONCE, rest), 'more', 'more')}`;
     more.hidden = list.childElementCount === check.unnamed.length;
   };
   more.onclick = add;
   add();
   $('unnamed').firstElementChild.textContent = unnamedText(check);
-  box.replaceChildren(element('p', { class: 'hint' }, 'A disc often has more than images, such as a viewer. A viewer that goes by the DICOMDIR does not show these.'), list, more);
+  box.replaceChildren(element('p', { class: 'hint' }, 'A disc often has more than images, such as a viewer. ' +
+    'A viewer that goes by the DICOMDIR does not show these.'), list, more);
 }
 
 $('check').addEventListener('click', checkDisc);

@@ -18,8 +18,11 @@ function stateOf(record) {
 function findingParts(finding) {
   const found = FINDING_WORDS.find((it) => it.line === finding.line && (!it.of || it.of in finding));
   const more = [];
-  if (finding.tag) more.push(element('p', {}, 'It says something else at ', element('code', {}, finding.tag),
-    TAG_NAMES[finding.tag.replace(/[(),]/g, '').toUpperCase()] ? ` (${TAG_NAMES[finding.tag.replace(/[(),]/g, '').toUpperCase()]}).` : '.'));
+  if (finding.tag) {
+    const name = TAG_NAMES[finding.tag.replace(/[(),]/g, '').toUpperCase()];
+    const tag = element('code', {}, finding.tag);
+    more.push(element('p', {}, 'It says something else at ', tag, name ? ` (${name}).` : '.'));
+  }
   if (finding.fault) more.push(element('p', {}, element('code', {}, plain(finding.fault.words))));
   if (finding.recorded) {
     more.push(element('p', { class: 'digests' }, 'Recorded SHA-256: ', element('code', {}, finding.recorded)),
@@ -44,14 +47,16 @@ function showDetails(record) {
   const elements = Object.entries(record.elements);
   for (const [tag, found] of elements.slice(0, MOST_ELEMENTS)) {
     if (TIES.has(tag) || tag === '00041410' || tag === '00041430' || tag === '00041500') continue;
-    const texts = valuesOf(found).filter(Boolean).map((text) => (found.vr === 'DA' ? dateText(text) : found.vr === 'TM' ? timeText(text) : text));
+    const texts = valuesOf(found).filter(Boolean).map((text) => valueText(found.vr, text));
     if (tag === '00091001') texts.splice(0, 1, hexOf(found.InlineBinary || ''));
     const more = texts.length > MOST_VALUES ? [`and ${counted(texts.length - MOST_VALUES, 'more', 'more')}`] : [];
     if (texts.length) add(TAG_NAMES[tag] || tagText(tag), [...texts.slice(0, MOST_VALUES), ...more]);
   }
   if (elements.length > MOST_ELEMENTS) add('Not shown', [counted(elements.length - MOST_ELEMENTS, 'more element')]);
   if (record.file !== undefined) add('File', [record.file]);
-  if (record.below.length) add('Below it', [`${counted(record.below.length, 'record')}, ${counted(record.files, 'file')}`]);
+  if (record.below.length) {
+    add('Below it', [`${counted(record.below.length, 'record')}, ${counted(record.files, 'file')}`]);
+  }
   const state = stateOf(record);
   $('details').replaceChildren(
     element('h3', {}, kind || disc(record.type || 'Record')),

@@ -12,7 +12,8 @@ const turn = (() => {
   return () => new Promise((go) => { waiting.push(go); port2.postMessage(0); });
 })();
 
-const KIND_ICONS = { PATIENT: 'M12 12a4 4 0 1 0 0-8 4 4 0 0 0 0 8zM4 21a8 8 0 0 1 16 0', STUDY: 'M5 4h14v17H5zM9 2v4M15 2v4M5 9h14',
+const KIND_ICONS = { PATIENT: 'M12 12a4 4 0 1 0 0-8 4 4 0 0 0 0 8zM4 21a8 8 0 0 1 16 0',
+  STUDY: 'M5 4h14v17H5zM9 2v4M15 2v4M5 9h14',
   SERIES: 'M4 8h12v12H4zM8 8V4h12v12h-4', IMAGE: 'M4 5h16v14H4zM4 16l5-5 4 4 3-3 4 4' };
 
 function icon(path, className) {
@@ -55,7 +56,8 @@ function say(text) { $('said').textContent = text; }
 
 /** Shows one of the parts of the page for discs: where it is chosen, what was refused, or the disc. */
 function showPart(id) {
-  for (const one of ['first', 'sets', 'refused', 'disc']) $(one).hidden = one !== id && !(one === 'first' && id !== 'disc');
+  const isShown = (one) => one === id || one === 'first' && id !== 'disc';
+  for (const one of ['first', 'sets', 'refused', 'disc']) $(one).hidden = !isShown(one);
 }
 
 /** Takes what was chosen or dropped: one disc is opened, and of several one is chosen. */
@@ -101,13 +103,15 @@ function refuseWithout(files) {
 /** A button that makes a new set of these files. */
 function offerToMake(files) {
   return element('p', { class: 'buttons' },
-    element('button', { type: 'button', onclick: () => { showTab('make'); planSet(files); } }, 'Make a new DICOMDIR of these files'));
+    element('button', { type: 'button', onclick: () => { showTab('make'); planSet(files); } },
+      'Make a new DICOMDIR of these files'));
 }
 
 /** Takes the lines of a list as they come, in turns, so that the page is never still. */
 class LineTaker {
   constructor(directory) {
-    Object.assign(this, { directory, lines: [], length: 0, done: Promise.resolve(), isBusy: false, shown: 0, began: performance.now() });
+    Object.assign(this, { directory, lines: [], length: 0, done: Promise.resolve(), isBusy: false, shown: 0 });
+    this.began = performance.now();
   }
 
   /** Takes more lines; false where they are more than the page can keep. */
@@ -150,7 +154,9 @@ async function openSet(files, folder) {
   say('Reading the directory…');
   const errors = [], taker = new LineTaker(directory);
   const run = new Run(['list', '--long', '--verbose', '--json', '--', folder || '.'], files, {
-    lines: (some) => { if (!taker.give(some)) refuseRun('This directory is longer than this page can show.', '', files); },
+    lines: (some) => {
+      if (!taker.give(some)) refuseRun('This directory is longer than this page can show.', '', files);
+    },
     errors: (some) => errors.push(...some),
   });
   open.run = run;
@@ -218,8 +224,7 @@ function faultParts({ fault, help, cause, path }) {
     element('p', { class: 'fault' }, element('code', {}, plain(fault.words)), ...(path ? [' in ', disc(path)] : [])),
     ...(cause ? [element('p', {}, plain(cause))] : []),
     ...(help ? [element('p', {}, element('strong', {}, 'What to do: '), plain(help))] : []),
-    ...(found ? [element('details', {}, element('summary', {}, 'What this means'), element('p', {}, found.says),
-      element('p', {}, found.todo))] : []),
+    ...(found ? [explained('What this means', element('p', {}, found.says), element('p', {}, found.todo))] : []),
   ];
 }
 
@@ -232,7 +237,7 @@ function refuse(line, files) {
 /** The run ended without a status. */
 function refuseRun(words, text, files) {
   showRefusal('This disc can’t be shown', files, element('p', {}, words),
-    ...(text ? [element('details', {}, element('summary', {}, 'What the browser says'), element('p', {}, plain(text)))] : []));
+    ...(text ? [explained('What the browser says', element('p', {}, plain(text)))] : []));
 }
 
 function search() {

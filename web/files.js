@@ -44,15 +44,17 @@ async function walk(entry, path, files) {
   }
 }
 
+const nameOf = (path) => path.slice(path.lastIndexOf('/') + 1);
 const folderOf = (path) => path.slice(0, Math.max(0, path.lastIndexOf('/')));
 const depthOf = (path) => path.split('/').length;
 
 /** The folders with a DICOMDIR that are nearest to the top of what was chosen. */
 function setsOf(files) {
-  const found = files.filter(({ path }) => DIRECTORY_NAME.test(path.slice(path.lastIndexOf('/') + 1)));
+  const found = files.filter(({ path }) => DIRECTORY_NAME.test(nameOf(path)));
   const least = found.reduce((depth, { path }) => Math.min(depth, depthOf(path)), Infinity);
   return [...new Set(found.filter(({ path }) => depthOf(path) === least).map(({ path }) => folderOf(path)))].sort();
 }
 
 /** Is this file the directory of that folder? */
-const isDirectoryOf = (path, folder) => folderOf(path) === folder && DIRECTORY_NAME.test(path.slice(folder ? folder.length + 1 : 0));
+const isDirectoryOf = (path, folder) =>
+  folderOf(path) === folder && DIRECTORY_NAME.test(path.slice(folder ? folder.length + 1 : 0));

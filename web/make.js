@@ -16,13 +16,14 @@ function freeName(files) {
 
 function indexWords(files, out, isDry) {
   const id = $('set-id').value.trim(), uid = $('set-uid').value.trim();
-  return ['index', '--json', '--verbose', ...(isDry ? ['--dry-run'] : []), ...(id ? ['--id', id] : []), ...(uid ? ['--uid', uid] : []),
+  return ['index', '--json', '--verbose', ...(isDry ? ['--dry-run'] : []),
+    ...(id ? ['--id', id] : []), ...(uid ? ['--uid', uid] : []),
     '--', out, ...files.map(({ path }) => path)];
 }
 
 function sayMaking(text) { $('making').textContent = text; }
 
-/** Runs index over the files, with its progress. Answers its result, lines and errors, or nothing where another began. */
+/** Runs index over the files, with progress. Answers its result, lines and errors, or nothing where another began. */
 async function runIndex(isDry, what, on = {}) {
   const { files } = making, lines = [], errors = [];
   const out = freeName(files), all = files.reduce((sum, { file }) => sum + file.size, 0) + OPENING * files.length;
@@ -33,7 +34,8 @@ async function runIndex(isDry, what, on = {}) {
     ahead: new Ahead(files, false),
     lines: (some) => lines.push(...some.map((line) => JSON.parse(line))),
     errors: (some) => errors.push(...some),
-    progress: ({ bytes, opened }) => progress.show((bytes + OPENING * opened) / (times * all + (times - 1) * OPENING), what),
+    progress: ({ bytes, opened }) =>
+      progress.show((bytes + OPENING * opened) / (times * all + (times - 1) * OPENING), what),
   });
   making.run?.stop();
   making.run = run;
@@ -47,7 +49,10 @@ async function runIndex(isDry, what, on = {}) {
 
 /** Asks the program what it would make of these files. */
 async function planSet(files) {
-  if (making.isSaving) { sayMaking('These files wait until what is being saved is saved or stopped: then choose them again.'); return; }
+  if (making.isSaving) {
+    sayMaking('These files wait until what is being saved is saved or stopped: then choose them again.');
+    return;
+  }
   making.files = files;
   $('plan').hidden = true;
   $('again').hidden = false;
@@ -58,40 +63,46 @@ async function planSet(files) {
   sayMaking('');
   if (result.isStopped) { sayMaking('Stopped.'); return; }
   const plan = lines.find((it) => it.line === 'PLAN');
-  $('plan').replaceChildren(...(result.failed ? [failedCard(result)] : result.status === 0 && plan ? planCards(plan) : [refusedCard(errors)]), ...leftCards(lines));
+  const isPlanned = result.status === 0 && plan;
+  $('plan').replaceChildren(...(isPlanned ? planCards(plan) : [refusedCard(result, errors)]), ...leftCards(lines));
   $('plan').hidden = false;
   $('plan').querySelector('h2')?.focus({ preventScroll: true });
 }
 
 // Why files are skipped, above the program's words, by the number of the fault (docs/FAULTS.md).
-const SKIPPED = new Map([[31, 'no DICOM file, cut, or in a form that is not taken'], [32, 'of a class that is not taken'],
+const SKIPPED = new Map([[31, 'no DICOM file, cut, or in a form that is not taken'],
+  [32, 'of a class that is not taken'],
   [33, 'a key is missing'], [34, 'a key is no UID'], [35, 'a key is too long'], [36, 'a key is a sequence'],
   [37, 'a key is not as in the head of the file'], [39, 'too large']]);
 
 const heading = (text) => element('h2', { tabindex: '-1' }, text);
 
-function failedCard({ failed, text }) {
-  return element('div', { class: 'card', role: 'alert' }, heading('This set can’t be made'), element('p', {}, failed), ...(text ? [element('p', { class: 'hint' }, plain(text))] : []));
-}
-
-function refusedCard(errors) {
+/** Why there is no set: the run ended without a status, or the program refused it. */
+function refusedCard({ failed, text }, errors) {
   const line = faultOf(errors);
-  const what = line.fault.number ? faultParts(line) : [element('p', {}, plain(errors.join(' ')))];
+  let what = [element('p', {}, plain(errors.join(' ')))];
+  if (failed) what = [element('p', {}, failed), ...(text ? [element('p', { class: 'hint' }, plain(text))] : [])];
+  else if (line.fault.number) what = faultParts(line);
   return element('div', { class: 'card', role: 'alert' }, heading('This set can’t be made'), ...what);
 }
 
 function planCards({ instances, bytes, image_bytes: imageBytes }) {
   if (!instances) {
     return [element('div', { class: 'card' }, heading('None of these files is an image that it takes'),
-      element('p', {}, 'It takes DICOM images of many kinds, such as CT, MR, ultrasound and X-ray. Below it says why each file was skipped.'))];
+      element('p', {}, 'It takes DICOM images of many kinds, such as CT, MR, ultrasound and X-ray. ' +
+        'Below it says why each file was skipped.'))];
   }
   const canWrite = Boolean(window.showDirectoryPicker);
   return [element('div', { class: 'card' }, heading(`${counted(instances, 'image')}, ${sized(imageBytes + bytes)}`),
-    element('p', {}, `Of ${counted(making.files.length, 'file')} the set gets ${counted(instances, 'image')} and a DICOMDIR. The files that you chose stay as they are.`),
+    element('p', {}, `Of ${counted(making.files.length, 'file')} the set gets ${counted(instances, 'image')} ` +
+      'and a DICOMDIR. The files that you chose stay as they are.'),
     element('p', { class: 'buttons' },
-      ...(canWrite ? [element('button', { type: 'button', class: 'main', id: 'save-folder', onclick: saveToFolder }, 'Save to an empty folder or stick…')] : []),
-      element('button', { type: 'button', class: canWrite ? '' : 'main', id: 'save-zip', onclick: saveToZip }, 'Save as a zip')),
-    ...(canWrite ? [] : [element('p', { class: 'hint' }, 'Unpack the zip onto a stick or burn what is in it: the DICOMDIR belongs at the top of the disc.')]))];
+      ...(canWrite ? [element('button', { type: 'button', class: 'main', id: 'save-folder', onclick: saveToFolder },
+        'Save to an empty folder or stick…')] : []),
+      element('button', { type: 'button', class: canWrite ? '' : 'main', id: 'save-zip', onclick: saveToZip },
+        'Save as a zip')),
+    ...(canWrite ? [] : [element('p', { class: 'hint' }, 'Unpack the zip onto a stick or burn what is in it: ' +
+      'the DICOMDIR belongs at the top of the disc.')]))];
 }
 
 // What the lines NOTE say, by their kind.
@@ -113,18 +124,22 @@ function leftCards(lines) {
   }
   for (const [number, some] of groups) {
     const found = FAULT_WORDS.find((it) => it.first <= number && number <= it.last);
-    cards.push(listCard(`${counted(some.length, 'file')} skipped: ${SKIPPED.get(number) || plain(some[0].fault.name)}`, some,
-      (it) => [disc(it.path), ' ', element('code', {}, plain(it.fault.words))], found && `${found.says} ${found.todo}`));
+    const reason = SKIPPED.get(number) || plain(some[0].fault.name);
+    cards.push(listCard(`${counted(some.length, 'file')} skipped: ${reason}`, some,
+      (it) => [disc(it.path), ' ', element('code', {}, plain(it.fault.words))],
+      found && `${found.says} ${found.todo}`));
   }
   return cards;
 }
 
 function noteParts(it) {
   if (it.kind === 'names') {
-    return ['Patient ID ', disc(it.patient_id), ` has ${counted(it.count, 'name')}: `, ...it.names.flatMap((name, at) => (at ? ['; ', disc(name)] : [disc(name)])),
+    return ['Patient ID ', disc(it.patient_id), ` has ${counted(it.count, 'name')}: `,
+      ...it.names.flatMap((name, at) => (at ? ['; ', disc(name)] : [disc(name)])),
       it.count > it.names.length ? ' and more' : ''];
   }
-  return [disc(it.path || it.uid || ''), ' ', ...(Object.hasOwn(NOTES, it.kind) ? NOTES[it.kind](it) : [plain(it.kind)])];
+  const words = Object.hasOwn(NOTES, it.kind) ? NOTES[it.kind](it) : [plain(it.kind)];
+  return [disc(it.path || it.uid || ''), ' ', ...words];
 }
 
 /** A list that shows some of its items at once, and more by a click. */
@@ -139,7 +154,7 @@ function listCard(title, items, partsOf, help) {
   more.onclick = add;
   add();
   return element('details', { class: 'card', open: items.length <= 10 }, element('summary', {}, title),
-    ...(help ? [element('details', {}, element('summary', {}, 'What this means'), element('p', {}, help))] : []), list, more);
+    ...(help ? [explained('What this means', element('p', {}, help))] : []), list, more);
 }
 
 async function saveToZip() {
@@ -176,7 +191,9 @@ async function saveToFolder() {
     close: (number) => folder.close(number),
   });
   folder.leave();
-  if (ran) sayMaking(`Saved: ${counted(ran.instances, 'image')} and their DICOMDIR. To check it, choose that folder under “Open a disc”.`);
+  if (!ran) return;
+  sayMaking(`Saved: ${counted(ran.instances, 'image')} and their DICOMDIR. ` +
+    'To check it, choose that folder under “Open a disc”.');
 }
 
 const withoutTop = (path) => path.slice(path.indexOf('/') + 1);
@@ -193,7 +210,7 @@ async function save(what, on) {
   const done = lines.find((it) => it.line === 'DONE');
   if (result.status === 0 && done) return done;
   if (result.isStopped) sayMaking('Stopped: what was saved so far is not whole.');
-  else $('plan').replaceChildren(result.failed ? failedCard(result) : refusedCard(errors), ...leftCards(lines));
+  else $('plan').replaceChildren(refusedCard(result, errors), ...leftCards(lines));
   return null;
 }
 

@@ -4,7 +4,8 @@
 function fillPaper() {
   const { directory, check } = open;
   if (!directory || $('disc').hidden) return;
-  const parts = [element('h1', {}, disc(directory.id || $('disc-name').textContent)), element('p', {}, $('disc-counts').textContent),
+  const parts = [element('h1', {}, disc(directory.id || $('disc-name').textContent)),
+    element('p', {}, $('disc-counts').textContent),
     element('p', {}, `File-set UID ${plain(directory.uid)}. Printed on ${new Date().toLocaleString()} by dicomdir.`)];
   if (check?.isWhole) {
     parts.push(element('h2', {}, $('verdict').textContent));
@@ -27,7 +28,8 @@ function paperTable(all, rowOf) {
 
 function foundRow(record) {
   const above = [...record.upwards()].reverse().flatMap((it) => [disc(it.parts[0]), ' ']);
-  return element('tr', {}, element('td', {}, stateOf(record).text), element('td', {}, disc(record.file || '')), element('td', {}, ...above));
+  return element('tr', {}, element('td', {}, stateOf(record).text), element('td', {}, disc(record.file || '')),
+    element('td', {}, ...above));
 }
 
 function treeRow(record) {

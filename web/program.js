@@ -48,7 +48,10 @@ class Run {
     const source = new Blob([$('worker').textContent], { type: 'text/javascript' });
     this.source = URL.createObjectURL(source);
     this.worker = new Worker(this.source);
-    this.worker.onerror = (event) => { event.preventDefault?.(); this.end({ failed: FAILED.silent, text: event.message }); };
+    this.worker.onerror = (event) => {
+      event.preventDefault?.();
+      this.end({ failed: FAILED.silent, text: event.message });
+    };
     this.worker.onmessageerror = () => this.end({ failed: FAILED.host, text: 'a message could not be read' });
     this.worker.onmessage = (event) => this.take(event.data);
     const files = this.files.map(({ path, file }) => [path, file.size, file.lastModified]);

@@ -1,12 +1,14 @@
 // The records of a directory, made of the lines of 'list --long --json' in their order.
 
-const TAG = { name: '00100010', id: '00100020', birth: '00100030', date: '00080020', time: '00080030', study: '00081030',
+const TAG = { name: '00100010', id: '00100020', birth: '00100030', date: '00080020', time: '00080030',
+  study: '00081030',
   studyId: '00200010', accession: '00080050', modality: '00080060', seriesNumber: '00200011', series: '0008103E',
   imageNumber: '00200013', instance: '00041511' };
 // What the page calls the types of records that most discs have. Others keep the name that the directory gives them.
 const KINDS = new Map([['PATIENT', 'Patient'], ['STUDY', 'Study'], ['SERIES', 'Series'], ['IMAGE', 'Image']]);
 // Tags that the page beside the tree names in words.
-const TAG_NAMES = { '00020002': 'SOP Class UID', '00020003': 'SOP Instance UID', '00020010': 'Transfer syntax', '00041410': 'In use', '00041430': 'Type of record', '00041500': 'File', '00041510': 'SOP Class UID',
+const TAG_NAMES = { '00020002': 'SOP Class UID', '00020003': 'SOP Instance UID', '00020010': 'Transfer syntax',
+  '00041410': 'In use', '00041430': 'Type of record', '00041500': 'File', '00041510': 'SOP Class UID',
   '00041511': 'SOP Instance UID', '00041512': 'Transfer syntax', '00080005': 'Character set', '00080012': 'Created on',
   '00080016': 'SOP Class UID', '00080018': 'SOP Instance UID', '00080020': 'Study date', '00080021': 'Series date',
   '00080022': 'Acquisition date', '00080023': 'Content date', '00080030': 'Study time', '00080031': 'Series time',
@@ -31,17 +33,21 @@ function valuesOf(found) {
     return [found.vr_recorded ? bytesText(found.InlineBinary) : counted(atob(found.InlineBinary).length, 'byte')];
   }
   if (found.vr === 'SQ') return [counted((found.Value || []).length, 'item')];
-  return (found.Value || []).map((value) => (found.vr === 'PN' ? personName(value) : value === null ? '' : String(value)));
+  const textOf = (value) => (value === null ? '' : String(value));
+  return (found.Value || []).map(found.vr === 'PN' ? personName : textOf);
 }
 
 const valueOf = (elements, tag) => valuesOf(elements[tag]).filter(Boolean).join(' \\ ');
 
 // The parts of a row, from what a person looks for first. Each is text of the disc, or a word of the page with some.
 const PARTS = new Map([
-  ['PATIENT', (of) => [of(TAG.name) || 'No name', of(TAG.id) && `ID ${of(TAG.id)}`, of(TAG.birth) && `born ${dateText(of(TAG.birth))}`]],
-  ['STUDY', (of) => [[dateText(of(TAG.date)) || 'No date', timeText(of(TAG.time))].filter(Boolean).join(' '), of(TAG.study),
+  ['PATIENT', (of) => [of(TAG.name) || 'No name', of(TAG.id) && `ID ${of(TAG.id)}`,
+    of(TAG.birth) && `born ${dateText(of(TAG.birth))}`]],
+  ['STUDY', (of) => [[dateText(of(TAG.date)) || 'No date', timeText(of(TAG.time))].filter(Boolean).join(' '),
+    of(TAG.study),
     of(TAG.studyId) && `study ${of(TAG.studyId)}`, of(TAG.accession) && `accession ${of(TAG.accession)}`]],
-  ['SERIES', (of) => [of(TAG.modality) || 'No modality', of(TAG.seriesNumber) && `series ${of(TAG.seriesNumber)}`, of(TAG.series)]],
+  ['SERIES', (of) => [of(TAG.modality) || 'No modality', of(TAG.seriesNumber) && `series ${of(TAG.seriesNumber)}`,
+    of(TAG.series)]],
   ['IMAGE', (of, line) => [of(TAG.imageNumber) ? `Image ${of(TAG.imageNumber)}` : 'Image', line.file]],
 ]);
 const otherParts = (of, line) => [line.type || 'Record', line.file || line.key];
@@ -65,7 +71,8 @@ class DirectoryRecord {
     this.faulty = 0;
     this.finding = null;
     this.parts = (PARTS.get(line.type) || otherParts)(of, line).filter(Boolean);
-    this.searched = [...Object.values(TAG).map(of), ...this.parts, line.key, line.file || '', line.type].join('\n').toLowerCase();
+    const searched = [...Object.values(TAG).map(of), ...this.parts, line.key, line.file || '', line.type];
+    this.searched = searched.join('\n').toLowerCase();
   }
 
   /** What the program said of it, with each element. */
@@ -143,7 +150,7 @@ class Directory {
     for (const record of this.records) { record.finding = null; record.faulty = 0; }
   }
 
-  /** The records that have each word, in what is known of them or of a record above, and one of the words themselves. */
+  /** The records that have each word, in what is known of them or of a record above, and one word themselves. */
   search(words) {
     const hits = [], known = new Array(this.records.length);
     for (const record of this.records) {

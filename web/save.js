@@ -12,7 +12,8 @@ function download(blob, name) {
 /** Saves lines as the program prints them. */
 function saveLines(lines, what) {
   const name = /^[A-Z0-9_]{1,16}$/.test(open.directory.id) ? open.directory.id : 'disc';
-  download(new Blob([lines.join('\n'), lines.length ? '\n' : ''], { type: 'application/x-ndjson' }), `${name}-${what}.jsonl`);
+  const all = new Blob([lines.join('\n'), lines.length ? '\n' : ''], { type: 'application/x-ndjson' });
+  download(all, `${name}-${what}.jsonl`);
 }
 
 /** A folder that is written as the program makes it, below a handle of the File System Access API. */
@@ -24,7 +25,7 @@ class Folder {
 
   at(path) {
     if (!this.folders.has(path)) {
-      const made = this.at(folderOf(path)).then((above) => above.getDirectoryHandle(path.slice(path.lastIndexOf('/') + 1), { create: true }));
+      const made = this.at(folderOf(path)).then((above) => above.getDirectoryHandle(nameOf(path), { create: true }));
       made.catch(() => {});
       this.folders.set(path, made);
     }
@@ -34,7 +35,7 @@ class Folder {
   folder(path) { this.at(path); }
 
   create(number, path) {
-    const made = this.at(folderOf(path)).then((above) => above.getFileHandle(path.slice(path.lastIndexOf('/') + 1), { create: true }))
+    const made = this.at(folderOf(path)).then((above) => above.getFileHandle(nameOf(path), { create: true }))
       .then((file) => file.createWritable());
     made.catch(() => {});
     this.files.set(number, made);

@@ -62,7 +62,8 @@ function stay(event) {
 function start() {
   const lacks = lacking();
   if (lacks) {
-    $('unable').textContent = `This browser can’t run the page, as it lacks ${lacks}: open it in a current Chrome, Edge, Firefox or Safari.`;
+    $('unable').textContent = `This browser can’t run the page, as it lacks ${lacks}: ` +
+      'open it in a current Chrome, Edge, Firefox or Safari.';
     return;
   }
   for (const kind of ['click', 'auxclick', 'submit']) document.addEventListener(kind, stay, true);
@@ -71,11 +72,16 @@ function start() {
     $(`tab-${one}`).addEventListener('keydown', pressTab);
   }
   document.addEventListener('dragover', (event) => { event.preventDefault(); document.body.classList.add('over'); });
-  document.addEventListener('dragleave', (event) => { if (!event.relatedTarget) document.body.classList.remove('over'); });
+  document.addEventListener('dragleave', (event) => {
+    if (!event.relatedTarget) document.body.classList.remove('over');
+  });
   document.addEventListener('drop', drop);
   $('unable').hidden = true;
   $('page').hidden = false;
-  programModule().catch((error) => { $('unable').textContent = `This browser can’t run the program: ${error.message}`; $('unable').hidden = false; });
+  programModule().catch((error) => {
+    $('unable').textContent = `This browser can’t run the program: ${error.message}`;
+    $('unable').hidden = false;
+  });
 }
 
 start();

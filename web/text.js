@@ -1,5 +1,5 @@
-// Text of a disc, and how numbers, names and dates look. No text of a disc is ever markup: it is set as text, each value
-// in a bdi of its own, and what could steer its direction or the screen is a question mark.
+// Text of a disc, and how numbers, names and dates look. No text of a disc is ever markup: it is set as text, each
+// value in a bdi of its own, and what could steer its direction or the screen is a question mark.
 
 // Control characters, and those that change the direction of a line or end it.
 const STEERING = /[\u0000-\u001f\u007f-\u009f\u061c\u200e\u200f\u2028-\u202e\u2066-\u206f\ufeff\ufff9-\ufffb]/g;
@@ -31,6 +31,9 @@ function disc(text, className) {
   if (className) made.className = className;
   return made;
 }
+
+/** What stands below a click. */
+const explained = (title, ...parts) => element('details', {}, element('summary', {}, title), ...parts);
 
 const $ = (id) => document.getElementById(id);
 
@@ -65,7 +68,8 @@ function personGroup(group) {
 /** The groups of a PN value of the DICOM JSON model: the first, and the others in brackets. */
 function personName(value) {
   if (value === null || typeof value !== 'object') return value === null ? '' : String(value);
-  const groups = ['Alphabetic', 'Ideographic', 'Phonetic'].filter((name) => value[name]).map((name) => personGroup(value[name]));
+  const groups = ['Alphabetic', 'Ideographic', 'Phonetic'].filter((name) => value[name])
+    .map((name) => personGroup(value[name]));
   return groups.length > 1 ? `${groups[0]} (${groups.slice(1).join(', ')})` : groups[0] || '';
 }
 
@@ -77,6 +81,12 @@ function dateText(value) {
 /** A TM value as 10:15; one that is none as it stands. */
 function timeText(value) {
   return /^\d{4}(\d\d(\.\d{1,6})?)?$/.test(value) ? `${value.slice(0, 2)}:${value.slice(2, 4)}` : value;
+}
+
+/** A value of this representation, as a person would write it. */
+function valueText(vr, text) {
+  if (vr === 'DA') return dateText(text);
+  return vr === 'TM' ? timeText(text) : text;
 }
 
 /** Eight hexadecimal digits as (0010,0020). */

@@ -11,7 +11,7 @@ class Row {
 }
 
 class Tree {
-  /** `fill(element, record)` makes the contents of a row; `choose(record)` is called for the one that is active, or null. */
+  /** `fill(element, record)` makes the contents of a row; `choose(record)` is called for the active one, or null. */
   constructor(box, fill, choose) {
     Object.assign(this, { box, fill, choose });
     this.space = element('div', { class: 'space', role: 'presentation' });
@@ -117,7 +117,8 @@ class Tree {
     if (!this.height || !this.rows.length && !this.elements.size) return;
     this.space.style.height = `${this.rows.length * this.height}px`;
     const first = Math.max(0, Math.floor(this.box.scrollTop / this.height) - SPARE);
-    const last = Math.min(this.rows.length, Math.ceil((this.box.scrollTop + this.box.clientHeight) / this.height) + SPARE);
+    const end = (this.box.scrollTop + this.box.clientHeight) / this.height;
+    const last = Math.min(this.rows.length, Math.ceil(end) + SPARE);
     const wanted = new Set();
     for (let at = first; at < last; at++) wanted.add(at);
     if (this.active) wanted.add(this.placeOf(this.active));
@@ -203,7 +204,10 @@ class Tree {
       Home: () => this.activate(0),
       End: () => this.activate(this.rows.length - 1),
       ArrowRight: () => { if (row.isOpen) this.activate(at + 1); else this.toggle(at, true); },
-      ArrowLeft: () => { if (row.isOpen) this.toggle(at, false); else if (row.record.above) this.activate(this.placeOf(row.record.above)); },
+      ArrowLeft: () => {
+        if (row.isOpen) this.toggle(at, false);
+        else if (row.record.above) this.activate(this.placeOf(row.record.above));
+      },
       Enter: () => this.toggle(at, !row.isOpen),
       ' ': () => this.toggle(at, !row.isOpen),
       '*': () => { for (const it of row.record.above?.below || this.roots) this.setOpen(it, true); this.refresh(); },

@@ -1,7 +1,7 @@
 'use strict';
-// The program in a worker of a page: the files that the program sees, and its calls to the host (c/host.h). The messages
-// stand in docs/WEB.md. What reads, writes, stores and ends a file may wait for the page: then the stack is unwound, and
-// wound up again once the answer is there.
+// The program in a worker of a page: the files that the program sees, and its calls to the host (c/host.h). The
+// messages stand in docs/WEB.md. What reads, writes, stores and ends a file may wait for the page: then the stack is
+// unwound, and wound up again once the answer is there.
 
 // The most bytes of a piece, and those of the first of a file: of many files only the head is read.
 const PIECE = 4 << 20, FIRST = 1 << 18;
@@ -108,8 +108,8 @@ class Lines {
   end() { this.#tell(this.#parts.length > 0 ? [this.#parts.join('')] : []); }
 }
 
-// The calls of c/host.h. A call that waits gives a request in place of a number: a message, what of it is transferred, and
-// what to do with the answer.
+// The calls of c/host.h. A call that waits gives a request in place of a number: a message, what of it is transferred,
+// and what to do with the answer.
 class Host {
   opened = new Set();
   bytes = 0;
@@ -152,7 +152,8 @@ class Host {
   calls() {
     const call = (name) => (...words) => this[name](...words);
     return Object.fromEntries(
-      ['open', 'read', 'write', 'close', 'store', 'stat', 'folder', 'link', 'terminal', 'clock', 'word', 'words'].map((name) => [name, call(name)]));
+      ['open', 'read', 'write', 'close', 'store', 'stat', 'folder', 'link', 'terminal', 'clock', 'word', 'words']
+        .map((name) => [name, call(name)]));
   }
 
   open(at, length, flags) {
@@ -180,7 +181,8 @@ class Host {
     if (at >= place.size) return 0;
     if (file.piece && at < file.from + file.piece.length) return this.#give(file, to, room);
     file.piece = null;
-    const message = { kind: 'read', file: place.number, from: at, to: Math.min(at + (at === 0 ? FIRST : PIECE), place.size) };
+    const end = Math.min(at + (at === 0 ? FIRST : PIECE), place.size);
+    const message = { kind: 'read', file: place.number, from: at, to: end };
     const then = ({ bytes, error }) => {
       if (error || bytes.byteLength !== message.to - at) return refused(error);
       file.piece = new Uint8Array(bytes);

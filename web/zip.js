@@ -75,7 +75,8 @@ class Zip {
     const more = places.length ? [[2, 1], [2, 8 * places.length], ...places] : [];
     const lengthOf = (fields) => fields.reduce((sum, [bytes]) => sum + bytes, 0);
     const head = numbers([4, 0x04034b50], ...shared(isLong ? ZIP64 : 20), [2, lengthOf(local)]);
-    this.central.push(numbers([4, 0x02014b50], [2, ZIP64], ...shared(places.length ? ZIP64 : 20), [2, lengthOf(more)], [2, 0], [2, 0],
+    this.central.push(numbers([4, 0x02014b50], [2, ZIP64], ...shared(places.length ? ZIP64 : 20),
+      [2, lengthOf(more)], [2, 0], [2, 0],
       [2, 0], [4, 0], [4, isFar ? MOST_32 : this.size]), name, numbers(...more));
     for (const part of [head, name, numbers(...local), ...pieces]) this.add(part);
     this.size += head.byteLength + name.length + lengthOf(local) + size;
@@ -86,7 +87,8 @@ class Zip {
   blob() {
     const length = this.central.reduce((sum, it) => sum + it.byteLength, 0);
     const isLarge = this.count >= MOST_16 || length >= MOST_32 || this.size >= MOST_32;
-    const large = isLarge ? [numbers([4, 0x06064b50], [8, 44], [2, ZIP64], [2, ZIP64], [4, 0], [4, 0], [8, this.count], [8, this.count],
+    const large = isLarge ? [numbers([4, 0x06064b50], [8, 44], [2, ZIP64], [2, ZIP64], [4, 0], [4, 0],
+      [8, this.count], [8, this.count],
       [8, length], [8, this.size]), numbers([4, 0x07064b50], [4, 0], [8, this.size + length], [4, 1])] : [];
     const count = Math.min(this.count, MOST_16);
     const end = numbers([4, 0x06054b50], [2, 0], [2, 0], [2, count], [2, count], [4, Math.min(length, MOST_32)],
