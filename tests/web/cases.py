@@ -94,8 +94,8 @@ def try_disc(engine, disc, verdict, look, unnamed=(), word="im0", is_short=False
 def try_first(engine):
     """What is seen first, and the set of README.md."""
     same("the policy", POLICY, engine.run("return document.querySelector('meta[http-equiv]').content"))
-    same("the first sentence", "Choose the drive or folder of a disc to see what is on it, and to check that each file is there "
-         "and unchanged.", engine.run("return document.querySelector('#first .lead').innerText"))
+    same("the first sentence", "Choose the drive or folder of a disc to see what is on it, then click “Check all files” to learn "
+         "whether each file is there and unchanged.", engine.run("return document.querySelector('#first .lead').innerText"))
     try_disc(engine, top / "readme", "All 3 files are there and unchanged.", "good")
     open_disc(engine, top / "readme")
     engine.run("document.getElementById('search').value = 'roe ct'; document.getElementById('search').dispatchEvent(new Event('input'))")
@@ -118,6 +118,39 @@ def try_damaged(engine):
     same("rows that are changed alone", [1, "1 record found"], [found, engine.run("return testing.text('matches')")])
     engine.run("document.getElementById('another').click()")
     print(f"{engine.name}: findings of a damaged disc, and files that no record names")
+
+
+def try_odd(engine):
+    """Discs of no files, with a record that is not in use, and more than one; a disc that is left while it is checked."""
+    try_disc(engine, top / "none", "This directory names no files: there is nothing to check.", "note", word="")
+    open_disc(engine, top / "unused")
+    same("a record that is not in use", ["All 2 files are there and unchanged.", "banner good", ["unused/PT000001/ST000001/SE000001/IM000002"]],
+         engine.run(CHECKED))
+    same("its file", "1 file that no record in use names", engine.run("return document.querySelector('#unnamed summary').textContent"))
+    discs = [[f"two/{name}/DICOMDIR", base64.b64encode((top / name / "DICOMDIR").read_bytes()).decode()] for name in ("damaged", "readme")]
+    engine.run("testing.give('choose', given[0].map(([path, data]) => testing.file(path, data)))", discs)
+    same("two discs", ["two/damaged", "two/readme"], engine.run("return [...document.querySelectorAll('#sets button')].map((it) => it.textContent)"))
+    engine.run("document.querySelectorAll('#sets button')[1].click();" + OPENED)
+    same("the second", "DISC1", engine.run("return testing.text('disc-name')"))
+    # The first disc's end must not show on the second.
+    engine.run("document.getElementById('check').click(); testing.give('choose', given[0].map(([path, data]) => testing.file(path, data)));" + OPENED +
+               "await new Promise((go) => setTimeout(go, 500))", [["D/DICOMDIR", discs[0][1]]])
+    same("a disc that is left", ["TEST_1", False, False], engine.run(
+        "return [testing.text('disc-name'), testing.isShown('result'), testing.isShown('progress')]"))
+    engine.run("document.getElementById('another').click()")
+    print(f"{engine.name}: discs of no files, with a record that is not in use, several, and one that is left")
+
+
+def try_huge(engine):
+    """A directory of zeros, and one with a value that no line of the page can have: both end in words, and soon."""
+    for name, words in (("zeros", "51 File 21 NotPart10"), ("value", "One entry of this disc is longer than this page can show.")):
+        engine.run("testing.gaps = [0]; let last = performance.now(); testing.timer = setInterval(() => { const now = performance.now();"
+                   "testing.gaps.push(now - last); last = now; }, 10)")
+        open_disc(engine, top / name)
+        said, gap = engine.run("clearInterval(testing.timer); return [testing.text('refused'), Math.max(...testing.gaps)]")
+        same(f"{name}: what is said", True, words in said)
+        same(f"{name}: the page stood still for less than a second", True, gap < 1000)
+    print(f"{engine.name}: huge directories end in words")
 
 
 def try_unread(engine):
@@ -299,6 +332,9 @@ def try_make(engine):
     plan = make(engine, sources, "DISC1", "2.25.1")
     same("what is skipped stands first", True, "31 File 21 NotPart10" in plan and "left out" in plan)
     make(engine, sorted((top / "conflict").iterdir()))
+    # What a search finds may have one name in two folders.
+    plan = engine.run(MAKE, [["IM1", base64.b64encode((top / f"random/f{at}").read_bytes()).decode()] for at in (1, 2)], "", "")[0]
+    same("two files of one name", "2 images", plan[:8])
     # One that can't be: the UID is none.
     said = engine.run(MAKE, [["a.dcm", base64.b64encode(sources[0].read_bytes()).decode()]], "", "1.02")[0]
     same("a UID that is none", True, "71 BadUid" in said or "02" in said)
@@ -314,10 +350,13 @@ def try_make(engine):
           close: async () => { written[path + name] = new Blob(parts); } }; } }),
       });
       window.showDirectoryPicker = async () => folder('');
+      // What Windows puts onto a stick.
+      written['System Volume Information'] = new Blob();
       testing.give('images', given[0].map(([path, data]) => testing.file(path, data)));
       await testing.until(() => document.getElementById('save-folder'), 'the plan');
       document.getElementById('save-folder').click();
       await testing.until(() => testing.text('making').startsWith('Saved'), 'the folder');
+      delete written['System Volume Information'];
       """, [[path.name, base64.b64encode(path.read_bytes()).decode()] for path in sources])
     found = engine.run("const all = {}; for (const [path, it] of Object.entries(testing.written)) all[path] = await testing.base64(it);"
                        "return all")
@@ -474,6 +513,7 @@ def try_print(engine):
     engine.run(CHECKED)
     engine.run("window.dispatchEvent(new Event('beforeprint'))")
     text = engine.run("return document.getElementById('paper').textContent")
+    same("the rest of the page is left out", True, engine.run("return document.body.className === 'on-paper'"))
     same("what is printed", [True] * 4, [it in text for it in ("4 of 12 files are not as recorded.", "DOE, JANE", "mislabelled", "2 files that no record names")])
     engine.run("window.dispatchEvent(new Event('afterprint')); document.getElementById('another').click()")
     print(f"{engine.name}: what is printed")
@@ -522,10 +562,10 @@ def try_burnt(engine):
 
 
 CASES = {"first": try_first, "damaged": try_damaged, "names": try_names, "writers": try_other_writers, "make": try_make,
-         "memory": try_memory, "network": try_network, "unread": try_unread, "hostile": try_hostile, "random": try_random, "large": try_large,
+         "memory": try_memory, "network": try_network, "unread": try_unread, "odd": try_odd, "huge": try_huge, "hostile": try_hostile, "random": try_random, "large": try_large,
          "keys": try_keys, "sizes": try_sizes, "print": try_print, "zip64": try_zip64, "lacking": try_lacking, "burnt": try_burnt}
 # What is tried in the other engines.
-FEW = ("first", "damaged", "names", "writers", "make", "memory", "hostile", "random", "print", "network")
+FEW = ("first", "damaged", "odd", "names", "writers", "make", "memory", "hostile", "random", "print", "network")
 
 
 def main():

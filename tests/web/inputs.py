@@ -5,6 +5,7 @@
 """
 import pathlib
 import random
+import shutil
 import subprocess
 import sys
 
@@ -86,6 +87,18 @@ class Maker:
         broken = self.folder("broken")
         (broken / "DICOMDIR").write_bytes((self.out / "readme/DICOMDIR").read_bytes()[:700])
 
+    def odd(self):
+        """Directories of no records, with one that is not in use, of zeros, and with a value of 64 MiB."""
+        (self.folder("none") / "DICOMDIR").write_bytes(directory(b"", 0, 0))
+        shutil.copytree(self.out / "readme", self.out / "unused")
+        data = (self.out / "readme/DICOMDIR").read_bytes()
+        flag = data.rindex(element(4, 0x1410, b"US", b"\xff\xff"), 0, data.index(b"IM000002"))
+        (self.out / "unused/DICOMDIR").write_bytes(data[:flag + 8] + b"\0\0" + data[flag + 10:])
+        with open(self.folder("zeros") / "DICOMDIR", "wb") as zeros:
+            zeros.truncate(100_000_000)
+        value = text(0x10, 0x10, b"PN", b"DOE^JANE") + text(0x10, 0x20, b"LO", b"P1") + element(0x42, 0x11, b"OB", bytes(64 << 20))
+        (self.folder("value") / "DICOMDIR").write_bytes(directory(record(0, 0, value), FIRST, FIRST))
+
     def sources(self):
         """Image files to make sets of: some are none, one has a twin, one patient has two names."""
         room = self.folder("sources")
@@ -142,5 +155,6 @@ class Maker:
 if __name__ == "__main__":
     maker = Maker(sys.argv[1], pathlib.Path(sys.argv[2]))
     maker.discs()
+    maker.odd()
     maker.sources()
     maker.hostile(2000)
