@@ -26,16 +26,20 @@ function sayMaking(text) { $('making').textContent = text; }
 /** Runs index over the files, with progress. Answers its result, lines and errors, or nothing where another began. */
 async function runIndex(isDry, what, on = {}) {
   const { files } = making, lines = [], errors = [];
-  const out = freeName(files), all = files.reduce((sum, { file }) => sum + file.size, 0) + OPENING * files.length;
+  const out = freeName(files);
   const progress = new Progress($('make-progress'), $('make-bar'), $('make-text'));
   const times = isDry ? 1 : 2;
+  let all = 0;
   const run = new Run(indexWords(files, out, isDry), files, {
     ...on,
     ahead: new Ahead(files, false),
     lines: (some) => lines.push(...some.map((line) => JSON.parse(line))),
     errors: (some) => errors.push(...some),
-    progress: ({ bytes, opened }) =>
-      progress.show((bytes + OPENING * opened) / (times * all + (times - 1) * OPENING), what),
+    progress: ({ bytes, opened }) => {
+      // The sizes are known by now.
+      all ||= files.reduce((sum, { file }) => sum + file.size, 0) + OPENING * files.length;
+      progress.show((bytes + OPENING * opened) / (times * all + (times - 1) * OPENING), what);
+    },
   });
   making.run?.stop();
   making.run = run;

@@ -28,6 +28,19 @@ function errorName(error) {
   return Object.hasOwn(names, error?.name) ? names[error.name] : 'EIO';
 }
 
+/** Path, size and time of each file, in turns: Chromium asks the system for those of one file after another. */
+async function described(files) {
+  const all = [];
+  let until = performance.now() + TURN;
+  for (const { path, file } of files) {
+    all.push([path, file.size, file.lastModified]);
+    if (performance.now() < until) continue;
+    await turn();
+    until = performance.now() + TURN;
+  }
+  return all;
+}
+
 /** One run of the program. `done` answers { status, opened, .. }, or { failed } with the words why there is none. */
 class Run {
   /**
@@ -43,7 +56,7 @@ class Run {
   }
 
   async start() {
-    const module = await programModule();
+    const module = await programModule(), files = await described(this.files);
     if (this.isStopped) return;
     const source = new Blob([$('worker').textContent], { type: 'text/javascript' });
     this.source = URL.createObjectURL(source);
@@ -54,7 +67,6 @@ class Run {
     };
     this.worker.onmessageerror = () => this.end({ failed: FAILED.host, text: 'a message could not be read' });
     this.worker.onmessage = (event) => this.take(event.data);
-    const files = this.files.map(({ path, file }) => [path, file.size, file.lastModified]);
     this.worker.postMessage({ kind: 'run', module, words: this.words, files });
   }
 
