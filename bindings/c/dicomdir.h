@@ -13,7 +13,9 @@
  *   Where the status is not 0, nothing but *answer is written.
  * - Any number of calls may run at once, each with outputs of its own.
  *
- * A first call with rooms of 0 items so finds the sizes. dicomdir_table.h does that for a table and for a merge.
+ * Each function says how many items an output has at most, by the lengths of its inputs. Room for these always
+ * suffices, so that no call answers 1. It may be large, but takes memory only where it is written. To ask for the
+ * sizes first, with rooms of 0 items, is to have the work done twice. dicomdir_table.h makes a table and a merge so.
  * docs/EMBEDDING.md says what a caller must keep, and what is proved. */
 #ifndef DICOMDIR_H
 #define DICOMDIR_H
@@ -116,7 +118,8 @@ uint32_t dicomdir_interface(void);
 /* Lists the records: gives the text that `dicomdir list` prints.
  *
  * bytes   a DICOMDIR of any producer
- * out     room for the text: answer->text bytes
+ * out     room for the text: answer->text bytes. At most 12 * bytes_len, as a byte of withdrawn UIDs may have a line
+ *         of 12; and 2 * bytes_len where no UID is withdrawn
  *
  * 0, 1, 51 to 58, 91. */
 uint32_t dicomdir_list(const uint8_t *bytes, size_t bytes_len, uint8_t *out, size_t out_len,
@@ -125,11 +128,12 @@ uint32_t dicomdir_list(const uint8_t *bytes, size_t bytes_len, uint8_t *out, siz
 /* Gives a row for each record, depth first, and its values at the tags that are asked for.
  *
  * tags    as 0x00100020, in any order; a tag may stand there twice
- * rows    room for answer->rows rows
- * ends    room for answer->rows * tags_len numbers. Value t of row r is number v = r * tags_len + t
+ * rows    room for answer->rows rows. At most bytes_len / 52, as no record has fewer bytes
+ * ends    room for answer->rows * tags_len numbers, so at most bytes_len / 52 * tags_len. Value t of row r is number
+ *         v = r * tags_len + t
  * text    room for answer->text bytes. Value v begins at v ? ends[v - 1] : 0, and ends before ends[v]. It has no
  *         padding, and is in the character set of its record (0008,0005). It is empty where the record has no such
- *         element, or a sequence there
+ *         element, or a sequence there. At most bytes_len where no tag stands twice, as values stand in the bytes
  *
  * 0, 1, 51 to 58, 91. */
 uint32_t dicomdir_rows(const uint8_t *bytes, size_t bytes_len, const uint32_t *tags, size_t tags_len,
@@ -141,7 +145,7 @@ uint32_t dicomdir_rows(const uint8_t *bytes, size_t bytes_len, const uint32_t *t
  * ends       room for answer->rows numbers, which are 3: where each value ends in `text`. Value 0 is the File-set ID
  *            (0004,1130), value 1 the UID (0002,0003), and value 2 has the withdrawn SOP Instance UIDs, divided by
  *            backslashes. A value that the directory lacks is empty
- * text       room for answer->text bytes
+ * text       room for answer->text bytes. At most bytes_len, as they stand there
  * unreached  how many records no offset reaches; written as the outputs are
  *
  * 0, 1, 51 to 58, 91. */
@@ -153,7 +157,7 @@ uint32_t dicomdir_front(const uint8_t *bytes, size_t bytes_len, uint64_t *ends, 
  *
  * name  a part of a File ID
  * ends  room for answer->rows numbers, which are 8: where each name ends in `text`
- * text  room for answer->text bytes
+ * text  room for answer->text bytes, which are 8 * name_len + 12
  *
  * 0, 1, 91. */
 uint32_t dicomdir_spellings(const uint8_t *name, size_t name_len, uint64_t *ends, size_t ends_len, uint8_t *text,
@@ -182,7 +186,7 @@ uint32_t dicomdir_findings(const uint8_t *bytes, size_t bytes_len, const struct 
  * Give it to dicomdir_merge, which needs no more of the file.
  *
  * bytes   the whole file
- * out     room for answer->text bytes
+ * out     room for answer->text bytes. At most 16,384, as there are twelve keys of up to 1,024 bytes
  *
  * 0, 1, 31 to 37, 41 to 43, 91. */
 uint32_t dicomdir_of_image(const uint8_t *bytes, size_t bytes_len, uint8_t *out, size_t out_len,
@@ -195,11 +199,14 @@ uint32_t dicomdir_of_image(const uint8_t *bytes, size_t bytes_len, uint8_t *out,
  * ends       where each of them ends
  * id         the File-set ID, up to 16 characters of A to Z, 0 to 9 and _; empty for none
  * uid        the UID of the file-set; empty for the one that follows from the directory
- * out        room for answer->text bytes: the directory
+ * out        room for answer->text bytes: the directory. At most bytes_len + bytes_len / 5 + 1024, as a File ID may
+ *            become longer
  * sets       room for answer->rows numbers, one for each image in the order of its IMAGE records: the number of the
- *            directory whose file is to be copied, from 0
- * file_ends  room for answer->rows numbers: where the File ID of that file ends in `files`, as ends in dicomdir_rows
- * files      room for answer->files bytes: the File IDs in those directories, their parts divided by a backslash
+ *            directory whose file is to be copied, from 0. At most bytes_len / 200, as no such record has fewer bytes
+ * file_ends  room for answer->rows numbers, too: where the File ID of that file ends in `files`, as ends in
+ *            dicomdir_rows
+ * files      room for answer->files bytes: the File IDs in those directories, their parts divided by a backslash. At
+ *            most bytes_len / 3, as each has up to 71 bytes
  *
  * 0; 1; 2 where ends do not rise, or pass `bytes`; 72 for `id`, 71 for `uid`; 41 to 43; 51 to 65; 91. With 51 to 65
  * answer->source is the number of the directory. */
@@ -211,10 +218,12 @@ uint32_t dicomdir_merge(const uint8_t *bytes, size_t bytes_len, const uint64_t *
 /* Gives what dicomdir_merge of the same directories leaves out, and the Patient IDs with several names.
  *
  * bytes, ends, id, uid  as in dicomdir_merge
- * notes      room for answer->rows notes: files that are left out, as they came, and then Patient IDs, rising
- * text_ends  room for answer->files numbers: where each text of the notes ends in `text`
+ * notes      room for answer->rows notes: files that are left out, as they came, and then Patient IDs, rising. At most
+ *            bytes_len / 200, as each is of another record
+ * text_ends  room for answer->files numbers: where each text of the notes ends in `text`. At most bytes_len / 60, as
+ *            most notes have three
  * text       room for answer->text bytes: the texts of the first note, then those of the next. A name is in the
- *            character set of its file
+ *            character set of its file. At most bytes_len
  * sum        how many images there are; written as the outputs are
  *
  * As dicomdir_merge. */
@@ -229,7 +238,7 @@ uint32_t dicomdir_notes(const uint8_t *bytes, size_t bytes_len, const uint64_t *
  * uids      the SOP Instance UIDs to withdraw, one after the other
  * uid_ends  where each of them ends
  *
- * All else is as in dicomdir_merge; each of `sets` is 0.
+ * All else is as in dicomdir_merge; each of `sets` is 0, and `out` has at most uids_len + uid_ends_len bytes more.
  *
  * As dicomdir_merge; 2 also for uid_ends; 71 also where a text of `uids` is no UID, and answer->source is its
  * number. */

@@ -1,5 +1,5 @@
-/* Answers of dicomdir.h in memory of their own. These functions are inline, tested, and not proved: they ask for the
- * sizes, allocate by malloc, and ask again. */
+/* Answers of dicomdir.h in memory of their own. These functions are inline, tested, and not proved: they allocate by
+ * malloc as much as always suffices, call once, and give back what is left over. */
 #ifndef DICOMDIR_TABLE_H
 #define DICOMDIR_TABLE_H
 
@@ -43,6 +43,23 @@ static inline void *dicomdir_room(uint64_t items, size_t size) {
     return malloc((size_t)items * size + 1);
 }
 
+/* The same room, cut to this many items. */
+static inline void *dicomdir_cut(void *room, uint64_t items, size_t size) {
+    void *cut = realloc(room, (size_t)items * size + 1);
+    return cut ? cut : room;
+}
+
+/* How often a tag stands among these at most. */
+static inline size_t dicomdir_most_alike(const uint32_t *tags, size_t tags_len) {
+    size_t most = 1;
+    for (size_t one = 0; one < tags_len; one++) {
+        size_t alike = 0;
+        for (size_t other = 0; other < tags_len; other++) alike += tags[other] == tags[one];
+        if (alike > most) most = alike;
+    }
+    return most;
+}
+
 /* The value that is number `value` of a text with these ends. */
 static inline struct dicomdir_value dicomdir_value_at(const uint8_t *text, const uint64_t *ends, size_t value) {
     uint64_t from = value ? ends[value - 1] : 0;
@@ -63,25 +80,27 @@ static inline void dicomdir_free_table(struct dicomdir_table *table) {
 /* Reads a directory: 0 and a table, which dicomdir_free_table frees, or a status and a table of zeros. */
 static inline uint32_t dicomdir_read_table(const void *bytes, size_t length, const uint32_t *tags, size_t tags_len,
                                            struct dicomdir_table *table, struct dicomdir_answer *answer) {
-    const uint8_t *directory = (const uint8_t *)bytes;
-    struct dicomdir_row no_row;
-    uint64_t no_end;
-    uint8_t no_text;
-    uint32_t status =
-        dicomdir_rows(directory, length, tags, tags_len, &no_row, 0, &no_end, 0, &no_text, 0, answer);
+    const size_t rows = length / 52, width = tags_len ? tags_len * sizeof *table->ends : 1;
+    const size_t text = dicomdir_most_alike(tags, tags_len);
+    uint32_t status = DICOMDIR_NO_MEMORY;
     memset(table, 0, sizeof *table);
+    memset(answer, 0, sizeof *answer);
+    answer->fault = status;
     table->tags = tags_len;
-    if (status != DICOMDIR_NO_ROOM) return status;
-    table->rows = (size_t)answer->rows;
-    table->row = (struct dicomdir_row *)dicomdir_room(answer->rows, sizeof *table->row);
-    table->text = (uint8_t *)dicomdir_room(answer->text, 1);
-    if (tags_len <= SIZE_MAX / sizeof *table->ends)
-        table->ends = (uint64_t *)dicomdir_room(answer->rows, tags_len ? tags_len * sizeof *table->ends : 1);
-    status = DICOMDIR_NO_MEMORY;
+    table->row = (struct dicomdir_row *)dicomdir_room(rows, sizeof *table->row);
+    table->text = (uint8_t *)dicomdir_room(length, text);
+    if (tags_len <= SIZE_MAX / sizeof *table->ends) table->ends = (uint64_t *)dicomdir_room(rows, width);
     if (table->row && table->ends && table->text)
-        status = dicomdir_rows(directory, length, tags, tags_len, table->row, table->rows, table->ends,
-                               table->rows * tags_len, table->text, (size_t)answer->text, answer);
-    if (status) dicomdir_free_table(table);
+        status = dicomdir_rows((const uint8_t *)bytes, length, tags, tags_len, table->row, rows, table->ends,
+                               rows * tags_len, table->text, length * text, answer);
+    if (status) {
+        dicomdir_free_table(table);
+        return status;
+    }
+    table->rows = (size_t)answer->rows;
+    table->row = (struct dicomdir_row *)dicomdir_cut(table->row, answer->rows, sizeof *table->row);
+    table->ends = (uint64_t *)dicomdir_cut(table->ends, answer->rows, width);
+    table->text = (uint8_t *)dicomdir_cut(table->text, answer->text, 1);
     return status;
 }
 
@@ -104,26 +123,29 @@ static inline void dicomdir_free_made(struct dicomdir_made *made) {
 static inline uint32_t dicomdir_make_merged(const void *bytes, size_t length, const uint64_t *ends, size_t ends_len,
                                             const char *id, const char *uid, struct dicomdir_made *made,
                                             struct dicomdir_answer *answer) {
-    const uint8_t *sets = (const uint8_t *)bytes, *set_id = (const uint8_t *)id, *set_uid = (const uint8_t *)uid;
-    size_t id_len = strlen(id), uid_len = strlen(uid);
-    uint64_t no_set, no_end;
-    uint8_t no_text, no_file;
-    uint32_t status = dicomdir_merge(sets, length, ends, ends_len, set_id, id_len, set_uid, uid_len, &no_text, 0,
-                                     &no_set, 0, &no_end, 0, &no_file, 0, answer);
+    const size_t text = length + length / 5 + 1024, images = length / 200, files = length / 3;
+    uint32_t status = DICOMDIR_NO_MEMORY;
     memset(made, 0, sizeof *made);
-    if (status != DICOMDIR_NO_ROOM) return status;
-    made->directory = (uint8_t *)dicomdir_room(answer->text, 1);
-    made->sets = (uint64_t *)dicomdir_room(answer->rows, sizeof *made->sets);
-    made->file_ends = (uint64_t *)dicomdir_room(answer->rows, sizeof *made->file_ends);
-    made->files = (uint8_t *)dicomdir_room(answer->files, 1);
+    memset(answer, 0, sizeof *answer);
+    answer->fault = status;
+    made->directory = (uint8_t *)dicomdir_room(text, 1);
+    made->sets = (uint64_t *)dicomdir_room(images, sizeof *made->sets);
+    made->file_ends = (uint64_t *)dicomdir_room(images, sizeof *made->file_ends);
+    made->files = (uint8_t *)dicomdir_room(files, 1);
+    if (made->directory && made->sets && made->file_ends && made->files)
+        status = dicomdir_merge((const uint8_t *)bytes, length, ends, ends_len, (const uint8_t *)id, strlen(id),
+                                (const uint8_t *)uid, strlen(uid), made->directory, text, made->sets, images,
+                                made->file_ends, images, made->files, files, answer);
+    if (status) {
+        dicomdir_free_made(made);
+        return status;
+    }
     made->directory_len = (size_t)answer->text;
     made->images = (size_t)answer->rows;
-    status = DICOMDIR_NO_MEMORY;
-    if (made->directory && made->sets && made->file_ends && made->files)
-        status = dicomdir_merge(sets, length, ends, ends_len, set_id, id_len, set_uid, uid_len, made->directory,
-                                made->directory_len, made->sets, made->images, made->file_ends, made->images,
-                                made->files, (size_t)answer->files, answer);
-    if (status) dicomdir_free_made(made);
+    made->directory = (uint8_t *)dicomdir_cut(made->directory, answer->text, 1);
+    made->sets = (uint64_t *)dicomdir_cut(made->sets, answer->rows, sizeof *made->sets);
+    made->file_ends = (uint64_t *)dicomdir_cut(made->file_ends, answer->rows, sizeof *made->file_ends);
+    made->files = (uint8_t *)dicomdir_cut(made->files, answer->files, 1);
     return status;
 }
 

@@ -1,5 +1,6 @@
 /* Calls each function of dicomdir.h with its inputs and outputs right before pages without access. It gives no room,
- * the exact room, and each output one item short; then nothing may be written. Each allocation is refused in turn.
+ * the exact room, the room that dicomdir.h says suffices always, and each output one item short; then nothing may be
+ * written. Each allocation is refused in turn.
  * Eight threads call at once, on small stacks.
  *
  *     guard DICOMDIR IMAGE
@@ -32,6 +33,8 @@ struct function {
     /* The bytes of an item of each output. */
     size_t sizes[OUTPUTS];
     void (*wanted)(const struct dicomdir_answer *, size_t *);
+    /* How many items each output has at most. */
+    void (*most)(size_t *);
 };
 
 static uint8_t *directory, *twice, *image, *contents, *uids;
@@ -113,16 +116,34 @@ static void of_notes(const struct dicomdir_answer *a, size_t *items) {
     items[0] = a->rows, items[1] = a->files, items[2] = a->text;
 }
 
+/* As dicomdir.h has them. */
+static void most_of_list(size_t *items) { items[0] = 12 * directory_len; }
+static void most_of_rows(size_t *items) {
+    items[0] = directory_len / 52, items[1] = directory_len / 52 * 3, items[2] = directory_len;
+}
+static void most_of_front(size_t *items) { items[0] = 3, items[1] = directory_len; }
+static void most_of_spellings(size_t *items) { items[0] = 8, items[1] = 8 * uids_len + 12; }
+static void most_of_findings(size_t *items) { items[0] = 2; }
+static void most_of_image(size_t *items) { items[0] = 16384; }
+static void most_of_merge(size_t *items) {
+    items[0] = directory_len + directory_len / 5 + 1024, items[1] = items[2] = directory_len / 200;
+    items[3] = directory_len / 3;
+}
+static void most_of_notes(size_t *items) {
+    items[0] = 2 * directory_len / 200, items[1] = 2 * directory_len / 60, items[2] = 2 * directory_len;
+}
+static void most_of_withdrawal(size_t *items) { most_of_merge(items), items[0] += uids_len + 1; }
+
 static const struct function functions[] = {
-    {"list", list, {1}, of_text},
-    {"rows", rows, {sizeof(struct dicomdir_row), 8, 1}, of_rows},
-    {"front", front, {8, 1}, of_front},
-    {"spellings", spellings, {8, 1}, of_front},
-    {"findings", findings, {sizeof(struct dicomdir_finding)}, of_files},
-    {"of_image", of_image, {1}, of_text},
-    {"merge", merge, {1, 8, 8, 1}, of_made},
-    {"notes", notes, {sizeof(struct dicomdir_note), 8, 1}, of_notes},
-    {"withdraw", withdraw, {1, 8, 8, 1}, of_made},
+    {"list", list, {1}, of_text, most_of_list},
+    {"rows", rows, {sizeof(struct dicomdir_row), 8, 1}, of_rows, most_of_rows},
+    {"front", front, {8, 1}, of_front, most_of_front},
+    {"spellings", spellings, {8, 1}, of_front, most_of_spellings},
+    {"findings", findings, {sizeof(struct dicomdir_finding)}, of_files, most_of_findings},
+    {"of_image", of_image, {1}, of_text, most_of_image},
+    {"merge", merge, {1, 8, 8, 1}, of_made, most_of_merge},
+    {"notes", notes, {sizeof(struct dicomdir_note), 8, 1}, of_notes, most_of_notes},
+    {"withdraw", withdraw, {1, 8, 8, 1}, of_made, most_of_withdrawal},
 };
 
 static void fail(const struct function *f, const char *what, uint32_t status) {
@@ -159,6 +180,17 @@ static int are_same(const struct function *f, const struct rooms *one, const str
     for (int output = 0; output < OUTPUTS; output++)
         if (memcmp(one->at[output], other->at[output], one->items[output] * f->sizes[output])) return 0;
     return 1;
+}
+
+/* The room that suffices always does. */
+static void try_most(const struct function *f) {
+    size_t most[OUTPUTS] = {0};
+    struct dicomdir_answer answer;
+    f->most(most);
+    struct rooms room = rooms_of(f, most);
+    uint32_t status = f->ask(&room, &answer);
+    if (status) fail(f, "the room that suffices", status);
+    drop(f, &room);
 }
 
 /* With each output one item short nothing is written, and the same sizes are answered. */
@@ -214,6 +246,7 @@ static void try_function(const struct function *f) {
     struct rooms exact = rooms_of(f, items), again = rooms_of(f, items);
     if ((status = f->ask(&exact, &answer))) fail(f, "the exact room", status);
     if (answer.fault | answer.within | answer.cause | answer.at | answer.tag) fail(f, "a fault of 0", answer.fault);
+    try_most(f);
     try_short(f, items);
     long tried = try_refusals(f, items);
     if ((status = f->ask(&again, &answer)) || !are_same(f, &exact, &again)) fail(f, "not the same again", status);
