@@ -18,6 +18,7 @@ from pathlib import Path
 
 import dicomdir
 from cases import EXAMPLES, TOP, copy_shown, head_of, run
+from crafted import element
 from dicomdir import _bytes, _calls, _opening, _text
 
 made, room = Path(sys.argv[1]), Path(sys.argv[2])
@@ -234,13 +235,6 @@ def memory():
     ran = subprocess.run([sys.executable, "-c", HELD, room / "held", *sources], capture_output=True, check=True)
     images, found, taken = map(int, ran.stdout.split())
     same("large files", (images, found, taken < 1.25 * (size >> 20)), (3, 0, True))
-
-
-def element(tag, kind, value):
-    """An element in Explicit VR Little Endian, whose length has two bytes."""
-    value += b" " * (len(value) % 2)
-    group, number, length = (part.to_bytes(2, "little") for part in (tag >> 16, tag & 0xFFFF, len(value)))
-    return group + number + kind + length + value
 
 
 def red_image():

@@ -25,7 +25,7 @@ def as_bytes(data: Data) -> bytes:
 
 
 def _asked(name: str, inputs: Sequence[Input], rooms: Sequence[Room], sizes: Callable[[Answer], Sequence[int]],
-           lone: bool = False) -> Tuple[Answer, List["array[int]"]]:
+           lone: bool = False) -> Tuple[Answer, List[Any]]:
     status, answer, outs = ask(name, inputs, rooms, sizes, lone)
     if status:
         raise Fault(status, answer)
@@ -53,8 +53,9 @@ def _cut(text: bytes, ends: Iterable[int]) -> List[bytes]:
 def listing(data: Data) -> str:
     """The text that `dicomdir list` prints of the DICOMDIR of any producer."""
     data = as_bytes(data)
-    _, (text,) = _asked("list", [data], [Room("B", 1, len(data) // 2 + 64)], lambda answer: [answer.text])
-    return text.tobytes().decode("ascii")
+    # A byte of withdrawn UIDs may have a line of 12.
+    _, (text,) = _asked("list", [data], [Room("B", 1, 12 * len(data))], lambda answer: [answer.text])
+    return text.decode("ascii")
 
 
 class Table(NamedTuple):
@@ -65,13 +66,14 @@ class Table(NamedTuple):
 
 
 def table(data: bytes, tags: Sequence[int]) -> Table:
-    """A row for each record, and where the value of each ends at each tag, by rows."""
-    width, few = len(tags), len(data) // 150
+    """A row for each record, and where the value of each ends at each tag, by rows. No tag stands there twice."""
+    # A record has 52 bytes or more, and each value stands in the bytes.
+    width, most = len(tags), len(data) // 52
     _, (rows, ends, text) = _asked(
         "rows", [data, (array("I", tags), 1)],
-        [Room("I", 4, few), Room("Q", 1, few * width), Room("B", 1, len(data) // 2)],
+        [Room("I", 4, most), Room("Q", 1, most * width), Room("B", 1, len(data))],
         lambda answer: [answer.rows, answer.rows * width, answer.text])
-    return Table(rows, ends, text.tobytes())
+    return Table(rows, ends, text)
 
 
 class Front(NamedTuple):
@@ -85,9 +87,9 @@ class Front(NamedTuple):
 def front(data: bytes) -> Front:
     """The File-set ID, the UID, withdrawn SOP Instance UIDs, and how many records no offset reaches."""
     _, (ends, text, unreached) = _asked(
-        "front", [data], [Room("Q", 1, 3), Room("B", 1, 4096), Room("Q", 1, 1)],
+        "front", [data], [Room("Q", 1, 3), Room("B", 1, len(data)), Room("Q", 1, 1)],
         lambda answer: [answer.rows, answer.text, 1], lone=True)
-    set_id, uid, withdrawn = (value.decode("latin-1") for value in _cut(text.tobytes(), ends))
+    set_id, uid, withdrawn = (value.decode("latin-1") for value in _cut(text, ends))
     return Front(set_id, uid, withdrawn.split("\\") if withdrawn else [], unreached[0])
 
 
@@ -97,7 +99,7 @@ def spellings(name: str) -> Tuple[str, ...]:
     data = name.encode("ascii")
     _, (ends, text) = _asked("spellings", [data], [Room("Q", 1, 8), Room("B", 1, 8 * len(data) + 12)],
                              lambda answer: [answer.rows, answer.text])
-    return tuple(shown.decode("ascii") for shown in _cut(text.tobytes(), ends))
+    return tuple(shown.decode("ascii") for shown in _cut(text, ends))
 
 
 class Found(NamedTuple):
@@ -119,8 +121,9 @@ def find_in_files(data: bytes, files: Sequence[Tuple[int, int, bytes]], keys: bo
 
 def of_image(data: Data) -> bytes:
     """The directory of one image file, to give to `merge`."""
-    _, (text,) = _asked("of_image", [as_bytes(data)], [Room("B", 1, 4096)], lambda answer: [answer.text])
-    return text.tobytes()
+    # Each of its twelve keys has at most 1,024 bytes.
+    _, (text,) = _asked("of_image", [as_bytes(data)], [Room("B", 1, 16384)], lambda answer: [answer.text])
+    return text
 
 
 class Made(NamedTuple):
@@ -133,20 +136,20 @@ def _text(text: str) -> bytes:
     return text.encode("utf-8", "replace")
 
 
-def _made(name: str, inputs: Sequence[Any], size: int, set_id: str, uid: str) -> Made:
-    few = size // 500 + 1
+def _made(name: str, inputs: Sequence[Any], size: int, more: int, set_id: str, uid: str) -> Made:
+    """What is made of directories of this size, and of UIDs with this many bytes more."""
+    most = size // 200
     _, (text, sets, ends, files) = _asked(
         name, [*inputs, _text(set_id), _text(uid)],
-        [Room("B", 1, size + 1024), Room("Q", 1, few), Room("Q", 1, few), Room("B", 1, size // 10 + 64)],
+        [Room("B", 1, size + size // 5 + more + 1024), Room("Q", 1, most), Room("Q", 1, most), Room("B", 1, size // 3)],
         lambda answer: [answer.text, answer.rows, answer.rows, answer.files])
-    return Made(text.tobytes(), [(number, file.decode("ascii"))
-                                 for number, file in zip(sets, _cut(files.tobytes(), ends))])
+    return Made(text, [(number, file.decode("ascii")) for number, file in zip(sets, _cut(files, ends))])
 
 
 def merge(directories: Iterable[Data], set_id: str = "", uid: str = "") -> Made:
     """The directory of the images of all these, as `dicomdir merge` makes it."""
     data, ends = _ended(map(as_bytes, directories))
-    return _made("merge", [data, (ends, 1)], len(data), set_id, uid)
+    return _made("merge", [data, (ends, 1)], len(data), 0, set_id, uid)
 
 
 class Notes(NamedTuple):
@@ -162,9 +165,9 @@ def notes(directories: Iterable[Data], set_id: str = "", uid: str = "") -> Notes
     data, ends = _ended(map(as_bytes, directories))
     _, (rows, text_ends, text, (_, _, _, repeated, _)) = _asked(
         "notes", [data, (ends, 1), _text(set_id), _text(uid)],
-        [Room("Q", 4, 16), Room("Q", 1, 64), Room("B", 1, 4096), Room("Q", 5, 1)],
+        [Room("Q", 4, len(data) // 200), Room("Q", 1, len(data) // 60), Room("B", 1, len(data)), Room("Q", 5, 1)],
         lambda answer: [answer.rows, answer.files, answer.text, 1], lone=True)
-    made, texts = Notes([], {}, repeated), iter(_cut(text.tobytes(), text_ends))
+    made, texts = Notes([], {}, repeated), iter(_cut(text, text_ends))
     for kind, number, kept, names in zip(rows[::4], rows[1::4], rows[2::4], rows[3::4]):
         first, *others = (next(texts).decode("latin-1") for _ in range(3 if kind == _LEFT_OUT else names + 1))
         if kind == _LEFT_OUT:
@@ -178,4 +181,4 @@ def withdraw(directory: Data, uids: Iterable[str], set_id: str = "", uid: str = 
     """The directory without the images of these SOP Instance UIDs, as `dicomdir withdraw` makes it."""
     directory = as_bytes(directory)
     texts, ends = _ended(map(_text, uids))
-    return _made("withdraw", [directory, texts, (ends, 1)], len(directory) + 80 * len(ends), set_id, uid)
+    return _made("withdraw", [directory, texts, (ends, 1)], len(directory), len(texts) + len(ends), set_id, uid)
