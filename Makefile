@@ -1,5 +1,5 @@
 # Tests the prebuilt program; installs it, its scripts, their man pages and completions, the C library, the Python
-# package, the page for browsers and the documents; and makes Debian packages of them, and a wheel.
+# package, the page for browsers and the documents; and makes Debian packages of them, a wheel, and a package for npm.
 # PREFIX, LIBDIR, PYTHONDIR, PYTHON and DESTDIR may hold spaces. CPU is v2 or v3, and not taken from the environment.
 SHELL := /bin/sh
 PREFIX ?= /usr/local
@@ -42,6 +42,7 @@ help:
 	@echo '  make uninstall  removes these files again, from the same PREFIX, LIBDIR, PYTHONDIR, PYTHON and DESTDIR'
 	@echo '  make deb        makes Debian packages of them, in packaging/out'
 	@echo '  make wheel      makes a wheel of the Python package and the C library, in packaging/out'
+	@echo '  make npm        makes a package of the program under Node for npm, in packaging/out'
 	@echo '  make page       makes the page for browsers of its sources in web, and of the program that it has'
 	@echo '  make form       looks at the form of the sources, at wrong bodies and at pages, in seconds (CONTRIBUTING.md)'
 	@echo "  make try        runs the program of today's sources, without proof, as make try ARGS='index OUT a.dcm'. The shell"
@@ -121,10 +122,13 @@ deb:
 wheel:
 	@bindings/python/wheel packaging/out
 
+npm:
+	@packaging/npm
+
 page:
 	web/build-page
 
 docs:
 	docs/generate --write
 
-.PHONY: help check form try quick install uninstall deb wheel page docs
+.PHONY: help check form try quick install uninstall deb wheel npm page docs
