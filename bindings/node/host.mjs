@@ -3,7 +3,7 @@
 import fs from 'node:fs';
 import tty from 'node:tty';
 import { numberOf, wordsOf } from './errors.mjs';
-import { Refusal, pathOf } from './paths.mjs';
+import { NULL, Refusal, pathOf } from './paths.mjs';
 
 const isWindows = process.platform === 'win32';
 const CREATES = 0o100;
@@ -70,7 +70,7 @@ const isFolder = (path) => fs.statSync(path, { throwIfNoEntry: false })?.isDirec
 
 function openOnWindows(path, flags, mode) {
   const isRead = !(flags & 3);
-  if (isRead && isFolder(path)) {
+  if (isRead && path !== NULL && isFolder(path)) {
     folders.set(++lastFolder, path);
     return lastFolder;
   }

@@ -2,6 +2,9 @@
 // Files, Paths, and Namespaces' in Microsoft's documentation.
 import { win32 } from 'node:path';
 
+/** /dev/null of Windows, the one device that is taken. */
+export const NULL = '\\\\.\\nul';
+
 /** Why a path is not given to the system, by the names of errors.mjs. */
 export class Refusal extends Error {
   constructor(code) {
@@ -33,7 +36,7 @@ function refuseName(name, isMade) {
 export function pathOf(bytes, isWindows, isMade = false) {
   if (!isWindows) return bytes;
   const text = bytes.toString();
-  if (text === '/dev/null') return '\\\\.\\nul';
+  if (text === '/dev/null') return NULL;
   if (NAMESPACE.test(text)) throw new Refusal('NAMESPACE');
   // The program makes each folder above OUT that is not there. On Windows a server is no folder, and the root is there.
   if (SERVER.test(text)) return '\\';

@@ -20,6 +20,7 @@ fs.openSync = (path, flags, mode) => {
   else written.delete(file);
   return file;
 };
+fs.statSync = (path, how) => (String(path).startsWith('\\\\.') ? fail('EINVAL', 'stat') : statSync(path, how));
 fs.fsyncSync = (file) => (written.has(file) ? fsyncSync(file) : fail('EPERM', 'fsync'));
 fs.linkSync = (from, to) => (process.env.REFUSE_LINKS ? fail('EISDIR', 'link') : linkSync(from, to));
 Object.defineProperty(process, 'platform', { value: 'win32' });
