@@ -226,7 +226,7 @@ int mkdir(const char *path, mode_t mode)
 {
     int error = error_of("mkdir");
 
-    return answer("mkdir", path, error ? 0 : syscall(SYS_mkdir, path, mode), error);
+    return answer("mkdir", path, error ? 0 : syscall(SYS_mkdirat, AT_FDCWD, path, mode), error);
 }
 
 int link(const char *old, const char *new)
@@ -235,7 +235,7 @@ int link(const char *old, const char *new)
     int error = error_of("link");
 
     snprintf(of, sizeof of, "%s %s", new, old);
-    return answer("link", of, error ? 0 : syscall(SYS_link, old, new), error);
+    return answer("link", of, error ? 0 : syscall(SYS_linkat, AT_FDCWD, old, AT_FDCWD, new, 0), error);
 }
 
 ssize_t read(int file, void *bytes, size_t size)
