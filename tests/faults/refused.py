@@ -1,9 +1,10 @@
 #!/usr/bin/python3
 """Runs the program with allocations or calls of the system refused, and compares each run with the undisturbed one.
 
-    refused.py allocations|calls|golden PROGRAM LIBRARY EXAMPLE FOLDER
+    refused.py allocations|calls|golden PROGRAM LIBRARY EXAMPLE FOLDER [NAME]
 
-With golden it only prints what each command says undisturbed, as the file golden has it.
+With golden it only prints what each command says undisturbed, as the file golden has it. Where NAME is given, only the
+command of that name is run.
 LIBRARY is refuse.c, compiled. All happens in FOLDER, which is new, in as many processes as JOBS says, else as there
 are processors. A line for each run is left in FOLDER/runs. The status is 1 where a run is not as it has to be; such
 runs are named on the error output.
@@ -79,6 +80,9 @@ def tell_wrong(wrong):
 
 def main(part, *words):
     """Does a part, and answers the status."""
+    if len(words) == 5:
+        *words, name = words
+        COMMANDS[:] = [command for command in COMMANDS if command.name == name]
     words = [os.path.abspath(word) for word in words]
     os.mkdir(words[-1])
     if part == "golden":
