@@ -1,6 +1,7 @@
 # Tests the prebuilt program; installs it, its scripts, their man pages and completions, the C library, the Python
 # package, the page for browsers and the documents; and makes Debian packages of them, a wheel, and a package for npm.
-# PREFIX, LIBDIR, PYTHONDIR, PYTHON and DESTDIR may hold spaces. CPU is v2 or v3, and not taken from the environment.
+# PREFIX, LIBDIR, PYTHONDIR, PYTHON and DESTDIR may hold spaces. CPU is v2 or v3, MACHINE x86_64 or aarch64, and neither
+# is taken from the environment.
 SHELL := /bin/sh
 PREFIX ?= /usr/local
 DESTDIR ?=
@@ -8,12 +9,14 @@ LIBDIR ?= $(PREFIX)/lib
 PYTHONDIR ?=
 PYTHON ?= /usr/bin/python3
 CPU := v2
-export PREFIX DESTDIR LIBDIR PYTHONDIR PYTHON
+MACHINE := $(shell uname -m)
+export PREFIX DESTDIR LIBDIR PYTHONDIR PYTHON MACHINE
 
-programs.v2 := prebuilt/x86_64-linux-gnu/dicomdir
-programs.v3 := prebuilt/x86_64-linux-gnu/dicomdir-v3
+folder := prebuilt/$(MACHINE)-linux-gnu
+programs.v2 := $(folder)/dicomdir
+programs.v3 := $(folder)/dicomdir-v3
 program := $(or $(programs.$(CPU)),$(error CPU is v2 or v3))
-library := prebuilt/x86_64-linux-gnu/libdicomdir.so.1
+library := $(folder)/libdicomdir.so.1
 headers := dicomdir.h dicomdir_table.h
 page := prebuilt/web/dicomdir.html
 # They do the work of 'dicomdir index'. Each has a man page and completions by its name.
@@ -31,7 +34,7 @@ python := "$$DESTDIR$$python"
 quoted = $$(printf '%s' "$$$(1)" | sed 's/[&|\\]/\\&/g')
 
 help:
-	@echo 'dicomdir $(version), a program for Linux on x86-64 with glibc 2.34 or newer'
+	@echo 'dicomdir $(version), a program for Linux on x86-64 or aarch64 with glibc 2.34 or newer'
 	@echo
 	@echo '  make check      tests it in a few seconds, without network and root'
 	@echo '  make install    copies it, its scripts, man pages, completions and documents, the C library, its headers,'
@@ -42,6 +45,7 @@ help:
 	@echo '  make uninstall  removes these files again, from the same PREFIX, LIBDIR, PYTHONDIR, PYTHON and DESTDIR'
 	@echo '  make deb        makes Debian packages of them, in packaging/out'
 	@echo '  make wheel      makes a wheel of the Python package and the C library, in packaging/out'
+	@echo '                  MACHINE=x86_64 or MACHINE=aarch64 is for another machine than this'
 	@echo '  make npm        makes a package of the program under Node for npm, in packaging/out'
 	@echo '  make page       makes the page for browsers of its sources in web, and of the program that it has'
 	@echo '  make form       looks at the form of the sources, at wrong bodies and at pages, in seconds (CONTRIBUTING.md)'

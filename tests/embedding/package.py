@@ -346,7 +346,7 @@ if len(sys.argv) > 1: platform.machine = lambda: sys.argv[1]
 import dicomdir
 """
     lacking = "this one lacks cx16, lahf_lm, popcnt, sse4_1, sse4_2, ssse3"
-    for words, wanted in (([], lacking), (["aarch64"], "needs Linux on x86-64")):
+    for words, wanted in (([], lacking), (["riscv64"], "needs Linux on x86-64 or aarch64")):
         ran = subprocess.run([sys.executable, "-c", script, *words], capture_output=True, check=False)
         last = ran.stderr.decode().splitlines()[-1]
         same("an older processor", (last.startswith("ImportError: dicomdir needs "), wanted in last), (True, True))

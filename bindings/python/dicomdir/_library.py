@@ -12,8 +12,15 @@ _FUNCTIONS = ("interface", "list", "rows", "front", "spellings", "findings", "of
 
 def _look_at_machine() -> None:
     """Raises ImportError where this machine can't run the library."""
-    if sys.platform != "linux" or platform.machine() != "x86_64" or sys.maxsize < 2 ** 32:
-        raise ImportError("dicomdir needs Linux on x86-64")
+    machine = platform.machine()
+    if sys.platform != "linux" or machine not in ("x86_64", "aarch64") or sys.maxsize < 2 ** 32:
+        raise ImportError("dicomdir needs Linux on x86-64 or aarch64")
+    if machine == "x86_64":
+        _look_at_processor()
+
+
+def _look_at_processor() -> None:
+    """Raises ImportError where this processor lacks a part of x86-64-v2."""
     try:
         with open("/proc/cpuinfo", encoding="ascii", errors="replace") as file:
             flags = next((line.split() for line in file if line.startswith("flags")), None)
