@@ -98,8 +98,8 @@ def title(line):
 
 
 def rows(lines, findings=None):
-    """The rows of a tree that is open: level, place among the records beside it, their number, whether it is open, text,
-    number of files, and state. Without findings nothing was checked."""
+    """The rows of a tree that is open: level, place among the records beside it, their number, whether it is open,
+    text, number of files, and state. Without findings nothing was checked."""
     records = [line for line in lines if line["line"] == "RECORD"]
     beside, above, path = {}, {}, []
     for at, line in enumerate(records):
@@ -132,5 +132,6 @@ def rows(lines, findings=None):
         else:
             state = "unchanged" if findings is not None and "file" in line else ""
         count = f"{files[at]:,} file" + "s" * (files[at] != 1) if below else ""
-        made.append([line["level"] + 1, places[at], len(beside[above[at]]), "true" if below else None, title(line), count, state])
+        made.append([line["level"] + 1, places[at], len(beside[above[at]]), "true" if below else None, title(line),
+                     count, state])
     return made
