@@ -1,5 +1,5 @@
-"""Browsers, each opened without a window and driven in the same way: Chromium by chromium-driver, Firefox by Marionette,
-WebKitGTK by webkit2gtk-driver."""
+"""Browsers, each opened without a window and driven in the same way: Chromium by chromium-driver, Firefox by
+Marionette, WebKitGTK by webkit2gtk-driver."""
 import base64
 import json
 import os
@@ -14,7 +14,8 @@ import time
 # Seconds that a page may take for what it is asked.
 LONGEST = 1800
 
-# What each test uses in the page. Scripts answer by an attribute, since Firefox keeps those of a test apart from the page.
+# What each test uses in the page. Scripts answer by an attribute, since Firefox keeps those of a test apart from the
+# page.
 HELPERS = """
 window.testing = {
   saved: [],
@@ -28,6 +29,12 @@ window.testing = {
     Object.defineProperty(input, 'files', { value: files, configurable: true });
     input.dispatchEvent(new Event('change', { bubbles: true }));
     delete input.files;
+  },
+  click: (id) => document.getElementById(id).click(),
+  search(words) {
+    const field = document.getElementById('search');
+    field.value = words;
+    field.dispatchEvent(new Event('input'));
   },
   isShown: (id) => Boolean(document.getElementById(id)?.offsetParent ?? null),
   text: (id) => document.getElementById(id).innerText.trim(),
@@ -47,22 +54,31 @@ window.testing = {
       box.dispatchEvent(new Event('scroll'));
       for (const it of box.querySelectorAll('[role=treeitem]')) found.set(parseFloat(it.style.top), it);
     }
-    return [...found].sort((one, other) => one[0] - other[0]).map(([, it]) => [Number(it.getAttribute('aria-level')),
-      Number(it.getAttribute('aria-posinset')), Number(it.getAttribute('aria-setsize')), it.getAttribute('aria-expanded'),
-      it.querySelector('.title').textContent, it.querySelector('.count')?.textContent || '', it.querySelector('.state')?.textContent || '']);
+    return [...found].sort((one, other) => one[0] - other[0]).map(([, it]) => [
+      Number(it.getAttribute('aria-level')), Number(it.getAttribute('aria-posinset')),
+      Number(it.getAttribute('aria-setsize')), it.getAttribute('aria-expanded'),
+      ...['.title', '.count', '.state'].map((part) => it.querySelector(part)?.textContent || '')]);
   },
   async base64(blob) {
     const bytes = new Uint8Array(await blob.arrayBuffer());
     let text = '';
-    for (let at = 0; at < bytes.length; at += 32768) text += String.fromCharCode(...bytes.subarray(at, at + 32768));
+    for (let at = 0; at < bytes.length; at += 32768) {
+      text += String.fromCharCode(...bytes.subarray(at, at + 32768));
+    }
     return btoa(text);
   },
 };
 {
   const before = URL.createObjectURL;
-  URL.createObjectURL = (blob) => { if (blob.type !== 'text/javascript') testing.saved.push(blob); return before.call(URL, blob); };
+  URL.createObjectURL = (blob) => {
+    if (blob.type !== 'text/javascript') testing.saved.push(blob);
+    return before.call(URL, blob);
+  };
   const click = HTMLAnchorElement.prototype.click;
-  HTMLAnchorElement.prototype.click = function () { if (this.download) testing.name = this.download; else click.call(this); };
+  HTMLAnchorElement.prototype.click = function () {
+    if (this.download) testing.name = this.download;
+    else click.call(this);
+  };
 }
 """
 
@@ -197,9 +213,10 @@ class Firefox(Engine):
         pathlib.Path(self.profile, "user.js").write_text(
             f'user_pref("marionette.port", {port});\nuser_pref("app.update.enabled", false);\n'
             'user_pref("datareporting.policy.dataSubmissionEnabled", false);\n')
-        self.process = subprocess.Popen(["firefox-esr", "--headless", "--marionette", "--profile", self.profile, "--no-remote"],
-                                        stdout=subprocess.DEVNULL, stderr=subprocess.DEVNULL, start_new_session=True,
-                                        env={**os.environ, "HOME": self.profile})
+        self.process = subprocess.Popen(
+            ["firefox-esr", "--headless", "--marionette", "--profile", self.profile, "--no-remote"],
+            stdout=subprocess.DEVNULL, stderr=subprocess.DEVNULL, start_new_session=True,
+            env={**os.environ, "HOME": self.profile})
         for _ in range(240):
             try:
                 self.socket = socket.create_connection(("127.0.0.1", port))
