@@ -1,5 +1,7 @@
 // Checks each file of the open disc, by 'check --keys --strict'.
 
+// What stands for each finding of a file that is not as recorded.
+const BAD = 'BAD', ANY_BAD = { text: 'not as recorded', look: 'bad' };
 // Names are shown up to this number at once.
 const AT_ONCE = 500;
 // What is counted of a file beside its bytes, for the time that is left: opening one takes as long as reading these.
@@ -109,10 +111,12 @@ function showResult(check, result, errors) {
       'so a changed pixel can’t be found.'));
   }
   if (kinds.length) {
+    const shown = kinds.map(([kind, number]) => [kind, number, STATES.get(kind)]);
+    if (shown.filter(([, , { look }]) => look === 'bad').length > 1) shown.unshift([BAD, bad, ANY_BAD]);
     parts.push(element('p', { class: 'kinds', role: 'group', 'aria-label': 'Show only files that are' },
-      element('span', {}, 'Show only:'), ...kinds.map(([kind, number]) =>
-      element('button', { type: 'button', 'aria-pressed': 'false', class: STATES.get(kind).look, 'data-kind': kind,
-        onclick: () => showKind(check, kind) }, `${number.toLocaleString('en')} ${STATES.get(kind).text}`))));
+      element('span', {}, 'Show only:'), ...shown.map(([kind, number, { text, look }]) =>
+      element('button', { type: 'button', 'aria-pressed': 'false', class: look, 'data-kind': kind,
+        onclick: () => showKind(check, kind) }, `${number.toLocaleString('en')} ${text}`))));
   }
   const line = !check.isWhole && !result.isStopped && !result.failed ? faultOf(errors) : null;
   if (line) parts.push(...faultParts(line));
@@ -131,11 +135,13 @@ function verdictOf(check, result, bad) {
   if (!check.isWhole) return 'The check was refused.';
   if (!files && !bad) return 'This directory names no files: there is nothing to check.';
   if (bad) {
-    return `${bad.toLocaleString('en')} of ${counted(files, 'file')} ${bad === 1 ? 'is' : 'are'} not as recorded.`;
+    const some = `${bad.toLocaleString('en')} of ${counted(files, 'file')}`;
+    return `This disc is not whole: ${some} ${bad === 1 ? 'is' : 'are'} not as recorded.`;
   }
   if (check.found.get('UNREACHED')) return `All ${counted(files, 'file')} that can be reached are there.`;
   if (check.found.get('NODIGEST')) return `All ${counted(files, 'file')} are there and can be read.`;
-  return files === 1 ? 'The file is there and unchanged.' : `All ${counted(files, 'file')} are there and unchanged.`;
+  const all = files === 1 ? 'its file is' : `all ${counted(files, 'file')} are`;
+  return `This disc is whole: ${all} there and unchanged.`;
 }
 
 /** Shows the files with this finding alone, or all again. */

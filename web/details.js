@@ -4,6 +4,8 @@
 const STATES = new Map([['BADID', { text: 'no file name', look: 'bad' }], ['MISSING', { text: 'missing', look: 'bad' }],
   ['UNREADABLE', { text: 'unreadable', look: 'bad' }], ['DIFFERS', { text: 'changed', look: 'bad' }],
   ['MISLABELLED', { text: 'mislabelled', look: 'bad' }], ['NODIGEST', { text: 'no digest', look: 'note' }]]);
+/** Is the file not as recorded? */
+const isBad = ({ line }) => STATES.get(line)?.look !== 'note';
 const UNCHANGED = { text: 'unchanged', look: 'good' }, INACTIVE = { text: 'not in use', look: 'note' };
 
 function stateOf(record) {

@@ -195,6 +195,7 @@ function listed(directory, result) {
   $('check').className = 'main';
   showCounts(directory);
   if ($('search').value) search(); else tree.refresh();
+  if (tree.active) showDetails(tree.active);
   goTo($('disc-name'));
 }
 
@@ -247,7 +248,7 @@ function search() {
   const kind = open.check?.shown;
   if (!words.length && !kind) { tree.filter(null, 0); $('matches').textContent = ''; return; }
   let hits = words.length ? directory.search(words) : directory.records;
-  if (kind) hits = hits.filter((record) => record.finding?.line === kind);
+  if (kind) hits = hits.filter(({ finding }) => finding && (finding.line === kind || kind === BAD && isBad(finding)));
   tree.filter(hits, directory.records.length);
   $('matches').textContent = hits.length ? `${counted(hits.length, 'record')} found` : 'Nothing found';
 }

@@ -65,6 +65,8 @@ class Tree {
     }
     this.box.scrollTop = 0;
     this.refresh();
+    // The record that was chosen stays in view where all are shown again.
+    if (!hits) this.activate(this.placeOf(this.active), false);
   }
 
   isOpen(record) {

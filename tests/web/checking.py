@@ -10,12 +10,14 @@ from steps import (CHECKED, OPENED, encoded, leave, open_disc, page, program, sa
 
 def try_damaged(engine):
     """Each finding, and files that no record names."""
-    try_disc(engine, top / "damaged", ["4 of 12 files are not as recorded.", "bad", "damaged/AUTORUN.INF",
-                                       "damaged/VIEWER/RUN.EXE"])
+    try_disc(engine, top / "damaged", ["This disc is not whole: 4 of 12 files are not as recorded.", "bad",
+                                       "damaged/AUTORUN.INF", "damaged/VIEWER/RUN.EXE"])
     open_disc(engine, top / "damaged")
     engine.run(CHECKED)
     kinds = engine.run("return [...document.querySelectorAll('#result [data-kind]')].map((it) => it.textContent)")
-    same("kinds of findings", ["1 changed", "1 mislabelled", "2 missing"], sorted(kinds))
+    same("kinds of findings", ["1 changed", "1 mislabelled", "2 missing", "4 not as recorded"], sorted(kinds))
+    engine.run("document.querySelector('[data-kind=BAD]').click()")
+    same("all that is not as recorded", "4 records found", engine.run("return testing.text('matches')"))
     engine.run("document.querySelector('[data-kind=DIFFERS]').click()")
     found = engine.run("return testing.rows().filter((row) => row[6] === 'changed').length")
     same("rows that are changed alone", [1, "1 record found"],
@@ -34,7 +36,7 @@ def try_odd(engine):
     checked."""
     try_disc(engine, top / "none", ["This directory names no files: there is nothing to check.", "note"], word="")
     open_disc(engine, top / "unused")
-    same("a record that is not in use", ["All 2 files are there and unchanged.", "banner good",
+    same("a record that is not in use", ["This disc is whole: all 2 files are there and unchanged.", "banner good",
                                          ["unused/PT000001/ST000001/SE000001/IM000002"]], engine.run(CHECKED))
     same("its file", "1 file that no record in use names",
          engine.run("return document.querySelector('#unnamed summary').textContent"))
@@ -58,7 +60,7 @@ def try_unread(engine):
     shutil.copytree(top / "readme", disc)
     open_disc(engine, disc)
     (disc / "PT000001/ST000001/SE000001/IM000002").unlink()
-    same("an unreadable file", "1 of 3 files is not as recorded.", engine.run(CHECKED)[0])
+    same("an unreadable file", "This disc is not whole: 1 of 3 files is not as recorded.", engine.run(CHECKED)[0])
     same("an unreadable file's line",
          b'{"line":"UNREADABLE","file":"PT000001\\\\ST000001\\\\SE000001\\\\IM000002"}\n', saved(engine, "save-check"))
     leave(engine)
@@ -103,7 +105,7 @@ def try_large(engine):
     same("large: the list as saved", lines, saved(engine, "save-list"))
     began = time.time()
     verdict, halfway = engine.run(PROGRESS)
-    same("large: what check says", "3 of 20,000 files are not as recorded.", verdict)
+    same("large: what check says", "This disc is not whole: 3 of 20,000 files are not as recorded.", verdict)
     see_findings(engine, disc)
     same("large: stopped", "Stopped: not all files were checked.", engine.run(STOPPED))
     leave(engine)
@@ -144,6 +146,6 @@ def try_burnt(engine):
     """The page on the disc itself."""
     mounted = top / "mounted"
     engine.open(mounted / "index.htm")
-    try_disc(engine, mounted, ["All 3 files are there and unchanged.", "good", "mounted/index.htm"])
+    try_disc(engine, mounted, ["This disc is whole: all 3 files are there and unchanged.", "good", "mounted/index.htm"])
     engine.open(page)
     print(f"{engine.name}: the page on a burnt disc, which it checks")

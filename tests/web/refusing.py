@@ -178,7 +178,8 @@ def try_memory(engine):
     same("a worker that fails", True, "The browser ended the program." in said)
     engine.run("document.getElementById('worker').textContent = testing.worker")
     leave(engine)
-    try_disc(engine, top / "readme", ["All 3 files are there and unchanged.", "good"], is_short=True)
+    try_disc(engine, top / "readme", ["This disc is whole: all 3 files are there and unchanged.", "good"],
+             is_short=True)
     print(f"{engine.name}: a run without memory and one that fails end in words")
 
 

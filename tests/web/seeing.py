@@ -15,8 +15,10 @@ def try_first(engine):
     same("the first sentence", "Choose the drive or folder of a disc to see what is on it, then click “Check all "
          "files” to learn whether each file is there and unchanged.",
          engine.run("return document.querySelector('#first .lead').innerText"))
-    try_disc(engine, top / "readme", ["All 3 files are there and unchanged.", "good"])
+    try_disc(engine, top / "readme", ["This disc is whole: all 3 files are there and unchanged.", "good"])
     open_disc(engine, top / "readme")
+    same("what is below the first record", "1 record, 2 files",
+         engine.run("return [...document.querySelectorAll('#details dd')].at(-1).innerText"))
     engine.run("testing.search('roe ct')")
     same("a search", [["Patient ROE, JANE · ID P2", "true"], ["Study 2024-01-15 10:15 · study 1", "true"],
                       ["Series CT · series 1", "false"]],
@@ -144,6 +146,7 @@ def try_print(engine):
     text = engine.run("return document.getElementById('paper').textContent")
     same("the rest of the page is left out", True, engine.run("return document.body.className === 'on-paper'"))
     same("what is printed", [True] * 4, [it in text for it in (
-        "4 of 12 files are not as recorded.", "DOE, JANE", "mislabelled", "2 files that no record names")])
+        "This disc is not whole: 4 of 12 files are not as recorded.", "DOE, JANE", "mislabelled",
+        "2 files that no record names")])
     engine.run("window.dispatchEvent(new Event('afterprint')); testing.click('another')")
     print(f"{engine.name}: what is printed")
