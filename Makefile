@@ -46,7 +46,7 @@ help:
 	@echo '  make deb        makes Debian packages of them, in packaging/out'
 	@echo '  make wheel      makes a wheel of the Python package and the C library, in packaging/out'
 	@echo '                  MACHINE=x86_64 or MACHINE=aarch64 is for another machine than this'
-	@echo '  make npm        makes a package of the program under Node for npm, in packaging/out'
+	@echo '  make npm        makes a package of the program under Node, and of the ES module, for npm, in packaging/out'
 	@echo '  make page       makes the page for browsers of its sources in web, and of the program that it has'
 	@echo '  make form       looks at the form of the sources, at wrong bodies and at pages, in seconds (CONTRIBUTING.md)'
 	@echo "  make try        runs the program of today's sources, without proof, as make try ARGS='index OUT a.dcm'. The shell"
