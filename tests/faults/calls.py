@@ -8,6 +8,8 @@ from rooms import DIRECTORY, OUTPUT, Command, count_kinds, harm, result_of, tell
 
 # It is opened first. Where a standard descriptor is closed, it stays open in its place.
 NULL = "/dev/null"
+# What comes of a look at a file that is listed, and fails: its path is not given.
+UNFOUND = "UNFOUND "
 
 # The errors that the calls fail with. EINVAL and EOPNOTSUPP are what a file system says that can't store a folder,
 # EMFILE is what the system says where the process has no more descriptors. EXDEV, EPERM and EMLINK are what it says
@@ -104,6 +106,8 @@ def of_reading(case, at, error, lasts):
         return None if call.name == "read" else "error: /dev/null can't be opened"
     if call.path == DIRECTORY:
         return of_look(case, call, lasts)
+    if looks_for_paths(case, at):
+        return UNFOUND + next(later.path for later in calls[at:] if f'"path":"{later.path}"' in case.right.out)
     if is_on_the_way(calls, at):
         return of_reading(case, next_opened(calls, at), error, lasts)
     if is_folder(case, call.path):
@@ -115,6 +119,13 @@ def of_reading(case, at, error, lasts):
         finding = "UNREADABLE" if call.name == "read" else "MISSING"
         return finding + " " + call.path.split("/", 1)[1].replace("/", "\\")
     return call.path + (": 93 Unread" if call.name == "read" else ": 92 Absent")
+
+
+def looks_for_paths(case, at):
+    """Is it a look at a file that is listed, or at a folder on the way, once the directory was read?"""
+    calls = case.right.calls
+    return (case.command.words.startswith("list --long --json") and calls[at].name == "statx"
+            and all(call.name != "open" for call in calls[at:]))
 
 
 def is_folder(case, path):
@@ -208,6 +219,14 @@ def found_lines(case, findings):
     return "".join(f"{line}\n" for line in lines)
 
 
+def without_paths(case, findings):
+    """The output of list where these files are not found."""
+    out = case.right.out
+    for finding in findings:
+        out = out.replace(f'"path":"{finding.removeprefix(UNFOUND)}"', '"path":null')
+    return out
+
+
 def keeps_going(case):
     """Does the command go on past a source that fails?"""
     return "--keep-going" in case.command.words
@@ -256,10 +275,12 @@ def is_as_failed(case, run, task):
     for found in [consequence(case, place, error, lasts) for place in places if calls[place].name == calls[at].name]:
         if found is None or found in findings:
             continue
-        if found.startswith(("MISSING", "UNREADABLE")):
+        if found.startswith(("MISSING", "UNREADABLE", UNFOUND)):
             findings.append(found)
             continue
         return (run.status, run.err) == (1, line_of(case, found)) and case.right.out.startswith(run.out)
+    if findings and findings[0].startswith(UNFOUND):
+        return (run.status, run.out, run.err) == (0, without_paths(case, findings), "")
     if findings:
         return (run.status, run.out, run.err) == (3, found_lines(case, findings), "")
     return run.is_as(case.right)
@@ -298,6 +319,8 @@ def kind_of(case, run, error):
         return "not made again"
     if run.status == 3:
         return "a finding"
+    if run.status == 0 and case.command.words.startswith("list"):
+        return "a path not given"
     return run.err.rsplit(": ", 1)[-1].strip() or "1 and no line"
 
 
