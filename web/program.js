@@ -99,8 +99,10 @@ class Run {
 
   async give({ file, from, to }) {
     try {
-      const bytes = await (this.on.ahead?.read(file, from, to) ?? this.files[file].file.slice(from, to).arrayBuffer());
-      this.worker.postMessage({ kind: 'piece', bytes }, [bytes]);
+      const { ahead } = this.on;
+      const piece = ahead ? await ahead.read(file, from, to)
+        : { bytes: await this.files[file].file.slice(from, to).arrayBuffer() };
+      this.worker.postMessage({ kind: 'piece', ...piece }, [piece.bytes]);
     } catch (error) {
       this.worker.postMessage({ kind: 'piece', error: errorName(error) });
     }

@@ -123,6 +123,8 @@ class Host {
   // What was written last to a made file, and not handed over yet.
   #kept = { file: null, bytes: null, length: 0 };
   #told = 0;
+  // The first pieces of files that came with that of another, by the number of the file.
+  #ahead = new Map();
 
   constructor({ words, files, folders = [] }) {
     this.#tree = new Tree(files, folders);
@@ -182,14 +184,22 @@ class Host {
     if (file.piece && at < file.from + file.piece.length) return this.#give(file, to, room);
     file.piece = null;
     const end = Math.min(at + (at === 0 ? FIRST : PIECE), place.size);
-    const message = { kind: 'read', file: place.number, from: at, to: end };
-    const then = ({ bytes, error }) => {
-      if (error || bytes.byteLength !== message.to - at) return refused(error);
-      file.piece = new Uint8Array(bytes);
+    const take = (piece) => {
+      if (piece.length < end - at || piece.length > place.size - at) return refused();
+      file.piece = piece;
       file.from = at;
       return this.#give(file, to, room);
     };
-    return { message, then };
+    const ahead = at === 0 && this.#ahead.get(place.number);
+    this.#ahead.delete(place.number);
+    if (ahead) return take(ahead);
+    const then = ({ bytes, parts, error }) => {
+      if (error) return refused(error);
+      if (!parts) return take(new Uint8Array(bytes));
+      this.#ahead = new Map(parts.map(([one, start, stop]) => [one, new Uint8Array(bytes, start, stop - start)]));
+      return this.read(number, to, room);
+    };
+    return { message: { kind: 'read', file: place.number, from: at, to: end }, then };
   }
 
   #give(file, to, room) {

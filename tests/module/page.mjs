@@ -28,6 +28,16 @@ export function fileOfBytes(name, size, slice) { return { name, size, modified: 
 
 const owned = (bytes) => bytes.buffer.slice(bytes.byteOffset, bytes.byteOffset + bytes.byteLength);
 
+// What was asked for, or whole small files from that on, as the page hands them over.
+function pieceOf(files, { file, from, to }) {
+  const several = from === 0 ? files.slice(file, file + 3).filter(({ size }) => size < 65536) : [];
+  if (several[0] !== files[file]) return { bytes: owned(files[file].slice(from, to)) };
+  const pieces = several.map((it) => it.slice(0, it.size)), parts = [];
+  let end = 0;
+  several.forEach((it, n) => parts.push([files.indexOf(it), end, end += pieces[n].length]));
+  return { bytes: owned(Buffer.concat(pieces)), parts };
+}
+
 // Runs the program on these files. `take` has what is made; `refuses(message)` gives the error of a request, if any.
 export function run({ module, words, files, folders, memory, take = () => {}, refuses = () => undefined, onMessage = () => {} }) {
   return new Promise((resolve) => {
@@ -40,7 +50,7 @@ export function run({ module, words, files, folders, memory, take = () => {}, re
       if (message.kind === 'lines') lines[message.of].push(...message.lines);
       else if (message.kind === 'read') {
         if (error) answer({ kind: 'piece', error });
-        else answer({ kind: 'piece', bytes: owned(files[message.file].slice(message.from, message.to)) });
+        else answer({ kind: 'piece', ...pieceOf(files, message) });
       } else if (message.kind === 'write' || message.kind === 'close') {
         if (!error) take(message);
         answer({ kind: 'done', error });
