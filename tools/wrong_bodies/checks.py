@@ -15,7 +15,7 @@ LIMIT, NOT_TRIED = "LIMIT", "NOT TRIED"
 # The last line of a check in which antt came to its end, of functions and of a crate.
 ENDED = re.compile(r"only=\d+ proved=\d+|logic=not-proved")
 # The line of a function whose own proof fails, and not only that of one that it calls.
-OPEN = re.compile(r"(?:fn|impl|struct|enum) (\S+): (?:not proved|no proof)(?!: it calls `[^`]*`, which is not proved$)")
+OPEN = re.compile(r"(?:fn|impl|struct|enum) (\S+): (?:not proved|no proof)(?!: it calls [^;]*, which (?:is|are) not proved$)")
 UNSURE = re.compile(r"(?:fn|impl|struct|enum) (\S+): could not tell")
 GOALS = re.compile(r"`search` did not prove (`[^;]*`)")
 # A part of a proof file that the checker refuses.
@@ -60,14 +60,16 @@ class Checker:
         self.name, self.folder = name, repository.folder(name)
         self.words = [kit.rattle, "check", *repository.words(name, kit), "--jobs", "1", "--incremental", kept]
 
-    def run(self, texts, flags=()):
-        """Checks the crate with these texts in place of its own."""
+    def run(self, texts, flags=(), without=()):
+        """Checks the crate with these texts in place of its own, without the proofs in these folders of proofs/."""
         with tempfile.TemporaryDirectory(prefix="wrong-body-") as room:
             for part in PARTS:
                 if (self.folder / part).is_dir():
                     shutil.copytree(self.folder / part, Path(room) / part)
             for path, text in texts.items():
                 (Path(room) / path).write_text(text, encoding="utf-8")
+            for it in without:
+                leave_out(Path(room) / "proofs" / it)
             with subprocess.Popen([*self.words, *flags], cwd=room, stdin=subprocess.DEVNULL, stdout=subprocess.PIPE,
                                   stderr=subprocess.STDOUT, text=True, errors="replace") as process:
                 said = process.stdout.read()
@@ -76,17 +78,25 @@ class Checker:
         lines = said.rstrip("\n").split("\n")
         return Run(process.returncode, lines, used.ru_utime + used.ru_stime, used.ru_maxrss // 1024)
 
-    def run_functions(self, change):
+    def run_functions(self, change, without=()):
         """Checks the functions of a change, each by the first of its paths that rattle knows, and gives their names."""
         ways, seconds = [list(it) for it in change.functions], 0.0
         while True:
-            run = self.run(change.texts, [word for it in ways for word in ("--only", it[0])])
+            run = self.run(change.texts, [word for it in ways for word in ("--only", it[0])], without)
             seconds += run.seconds
             unknown = [it for it in ways if len(it) > 1 and any(f"`{it[0]}`" in line for line in run.lines)]
             if run.status != 2 or not unknown:
                 names = [f"{self.name}::{it[0]}" for it in ways]
                 return Run(run.status, run.lines, seconds, run.megabytes), names
             unknown[0].pop(0)
+
+
+def leave_out(folder):
+    """Empties the proof of a function. rattle calls that not proved, and takes no time for it."""
+    folder.mkdir(parents=True, exist_ok=True)
+    for name in ("Answers.antt", "Invariants.antt"):
+        (folder / name).unlink(missing_ok=True)
+    (folder / "Proof.antt").write_text("-- It is left out.\n", encoding="utf-8")
 
 
 def unread(run, texts):
@@ -124,6 +134,15 @@ def refusal(run, functions):
     if names or lines and all("no proof: expected" in it for it in lines):
         return Verdict(BY_NAMES, (names or lines)[0][:200])
     return Verdict(REFUSED, lines[0][:200]) if lines else None
+
+
+def own_refusal(run, functions, texts):
+    """The verdict of a check without the proofs of other functions: REFUSED where goals of these functions are refused,
+    None for all else."""
+    if not run.has_ended() or unread(run, texts):
+        return None
+    verdict = refusal(run, functions)
+    return verdict if verdict and verdict.text.startswith("by `") else None
 
 
 def is_proof_of(folder, function):

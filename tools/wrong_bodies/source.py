@@ -83,7 +83,9 @@ def owners_of(code):
         head = " ".join(it[2].split())
         if it[1] == "impl":
             trait, is_of, type_ = without_parameters(head).partition(" for ")
-            names = [last_name(type_) + last_name(trait), last_name(type_)] if is_of else [last_name(trait)]
+            type_ = last_name(type_ if is_of else trait)
+            type_ = type_[:1].upper() + type_[1:]
+            names = [type_ + last_name(trait), type_] if is_of else [type_]
         else:
             names = [last_name(head.partition(":")[0])]
         yield it.end(), closing(code, it.end() - 1), names
@@ -117,6 +119,19 @@ def functions_of(text, file, homes=None):
             paths = tuple(dict.fromkeys("::".join([*top, *way, it[1]]) for top, way in tops))
             cycle = CYCLE.search(code, max(code.rfind(sign, 0, it.start()) for sign in "{};") + 1, it.start())
             found.append(Function(*body, paths, cycle[1] if cycle else ""))
+    return found
+
+
+def proofs_of(sources):
+    """The folders in proofs/ that the proofs of functions may be in, by what tells one proof from another: the name of a
+    cycle of calls, or a function's paths. The sources are by path."""
+    found, homes = {}, homes_of(sources)
+    for file, text in sources.items():
+        for it in functions_of(text, file, homes):
+            if it.cycle:
+                found[it.cycle] = ("/".join([*modules_of(file), f"+{it.cycle}"]),)
+            else:
+                found[it.paths] = tuple(path.replace("::", "/") for path in it.paths)
     return found
 
 

@@ -9,9 +9,10 @@ import time
 from concurrent.futures import ThreadPoolExecutor
 from pathlib import Path
 
-from wrong_bodies.checks import (BAD_EDIT, LIMIT, NOT_TRIED, PROVED, REFUSED, Checker, Verdict, refusal, unread,
+from wrong_bodies.checks import (BAD_EDIT, LIMIT, NOT_TRIED, PROVED, REFUSED, Checker, Verdict, own_refusal,
                                  verdict_of)
-from wrong_bodies.edits import BadEdit, change_of
+from wrong_bodies.edits import BadEdit, change_of, sources_of
+from wrong_bodies.source import proofs_of
 
 # What is not used for this number of seconds goes from the store.
 UNUSED = 90 * 24 * 3600
@@ -86,17 +87,24 @@ class CrateTrial:
 
     def try_groups(self, groups):
         """Tries edits at once, and gives those that are not refused so."""
-        joined = dataclasses.replace(groups[-1][1], functions=tuple(
-            dict.fromkeys(it for _, change in groups for it in change.functions)))
-        run, names = self.checker.run_functions(joined)
+        joined = dataclasses.replace(
+            groups[-1][1], functions=tuple(dict.fromkeys(it for _, change in groups for it in change.functions)),
+            proofs=frozenset().union(*(change.proofs for _, change in groups)))
+        run, names = self.check_own(joined)
         known, alone = dict(zip(joined.functions, names)), []
         for edit, change in groups:
-            verdict = refusal(run, [known[it] for it in change.functions]) if run.has_ended() else None
-            if not verdict or verdict.kind != REFUSED or unread(run, joined.texts):
-                alone.append(edit)
-            else:
+            verdict = own_refusal(run, [known[it] for it in change.functions], joined.texts)
+            if verdict:
                 self.tell(edit, dataclasses.replace(verdict, seconds=run.seconds / len(groups)))
+            else:
+                alone.append(edit)
         return alone
+
+    def check_own(self, change):
+        """Checks the functions of a change without the proofs of any other, on which goals of theirs do not rest."""
+        proofs = proofs_of({**sources_of(self.checker.folder), **change.texts})
+        others = [folder for it, folders in proofs.items() if it not in change.proofs for folder in folders]
+        return self.checker.run_functions(change, others)
 
     def try_alone(self, edit):
         """Tries an edit by the functions that it changes. A constant may stand in any contract, so where its users are
@@ -105,9 +113,11 @@ class CrateTrial:
             change = change_of(edit, self.checker.folder)
         except BadEdit as error:
             return Verdict(BAD_EDIT, str(error))
-        run, names = self.checker.run_functions(change)
-        verdict = verdict_of(run, change.texts, names)
-        seconds = run.seconds
+        run, names = self.check_own(change)
+        verdict, seconds = own_refusal(run, names, change.texts), run.seconds
+        if not verdict:
+            run, names = self.checker.run_functions(change)
+            verdict, seconds = verdict_of(run, change.texts, names), seconds + run.seconds
         if verdict.kind == PROVED and change.of_constant:
             run = self.checker.run(change.texts)
             verdict, seconds = verdict_of(run, change.texts, ()), seconds + run.seconds
