@@ -1,6 +1,7 @@
 //! Refuses the allocations of a call in turn, if the library of tests/faults/refuse.c is loaded.
 
 use std::alloc::Global;
+use std::fmt::Debug;
 use std::test::Fail;
 
 const MOST_ALLOCATIONS: u32 = 10_000;
@@ -35,6 +36,29 @@ pub fn refuse_each<C: Fn(Global, u32) -> Result<bool, Fail>>(
     for chosen in 1..=MOST_ALLOCATIONS {
         if !is_refused(alloc, chosen)? {
             return Ok(());
+        }
+    }
+    Err("the call has more allocations than are refused".into())
+}
+
+/// Makes a call with each of its allocations refused in turn. Gives the answer where none is.
+pub fn refuse_in_turn<T: Drop, E: Debug + Drop, C: Fn() -> Result<T, E>, M: Fn(&E) -> bool>(
+    alloc: Global,
+    call: C,
+    is_memory: M,
+) -> Result<T, Fail>
+    requires called { C.IsAlwaysCallable call }
+    requires judged { M.IsAlwaysCallable is_memory }
+{
+    for chosen in 1..=MOST_ALLOCATIONS {
+        signal(alloc, chosen)?;
+        let answer = call();
+        let wants_memory = match &answer {
+            Ok(_) => false,
+            Err(fault) => is_memory(fault),
+        };
+        if !was_refused(alloc, wants_memory)? {
+            return Ok(answer?);
         }
     }
     Err("the call has more allocations than are refused".into())

@@ -7,6 +7,14 @@ use std::test::Fail;
 
 const ARROW: &str = " > ";
 
+/// Cuts a line where the separator first stands.
+pub fn cut<'a>(line: &'a str, separator: &str) -> Result<(&'a str, &'a str), Fail> {
+    match line.split_once(separator) {
+        Some(parts) => Ok(parts),
+        None => Err(Fail::new(format_args!("no {separator:?} in {line:?}"))),
+    }
+}
+
 /// Gives the question of a case.
 pub fn question(case: &str) -> &str {
     match case.split_once(ARROW) {
@@ -19,6 +27,11 @@ pub fn question(case: &str) -> &str {
 pub fn answered<T: Display>(alloc: Global, case: &str, answer: &T) -> Result<String, AllocError> {
     let question = question(case);
     format!(in alloc; "{question}{ARROW}{answer}")
+}
+
+/// Gives what the value prints.
+pub fn shown<D: Display + Drop>(alloc: Global, value: D) -> Result<String, Fail> {
+    Ok(format!(in alloc; "{value}")?)
 }
 
 /// Asks the question of each line, and fails at the first with another answer.

@@ -1,5 +1,6 @@
 //! The bytes of directories, with the offset of each row.
 
+use crate::cases::cut;
 use crate::texts::{push_bytes, put_at};
 use std::alloc::Global;
 use std::test::Fail;
@@ -153,7 +154,7 @@ fn directory(alloc: Global, rows: &str) -> Result<Vec<u8>, Fail> {
 
 fn push_rows(alloc: Global, bytes: &mut Vec<u8>, rows: &str) -> Result<(), Fail> {
     for row in rows.split('\n') {
-        let (place, words) = row.split_once(' ').ok_or("a row without words")?;
+        let (place, words) = cut(row, " ")?;
         if place.parse::<usize>()? != bytes.len() {
             return Err("a row out of place".into());
         }

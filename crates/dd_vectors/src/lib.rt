@@ -14,9 +14,13 @@ mod source_file;
 mod texts;
 mod versions;
 
-pub use allocations::{ends_refused, refuse_allocation, refuse_each, require, was_refused};
+pub use allocations::{
+    ends_refused, refuse_allocation, refuse_each, refuse_in_turn, require, was_refused,
+};
 pub use byte_source::ByteSource;
-pub use cases::{answered, ask_all, claim_all, failing, push_lines, question, words_of};
+pub use cases::{
+    answered, ask_all, claim_all, cut, failing, push_lines, question, shown, words_of,
+};
 pub use directories::{deep, first_directory, v2, v3};
 pub use readers::{reader_of, tags_of};
 pub use sink::Sink;

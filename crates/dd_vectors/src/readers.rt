@@ -1,5 +1,5 @@
 use crate::byte_source::ByteSource;
-use crate::cases::failing;
+use crate::cases::{cut, failing};
 use crate::texts::tag_of;
 use dd_elem::Tag;
 use std::alloc::Global;
@@ -11,8 +11,8 @@ pub fn reader_of<'a, 'b>(
     bytes: &'a [u8],
     question: &'b str,
 ) -> Result<(ByteSource<'a>, u64, &'b str), Fail> {
-    let (piece, rest) = question.split_once(' ').ok_or("no piece")?;
-    let (limit, rest) = rest.split_once(' ').ok_or("no limit")?;
+    let (piece, rest) = cut(question, " ")?;
+    let (limit, rest) = cut(rest, " ")?;
     let (fails, words) = rest.split_once(' ').unwrap_or((rest, ""));
     let reader = ByteSource::new(bytes, piece.parse()?, failing(fails)?);
     Ok((reader, limit.parse()?, words))

@@ -1,5 +1,6 @@
 //! V1, the file of a CT image, and files like it.
 
+use crate::cases::cut;
 use crate::texts::{bytes_of, push_bytes, tag_of};
 use dd_elem::{Tag, Vr};
 use std::alloc::Global;
@@ -97,7 +98,7 @@ fn push_rows(
     (rows, changes): (&str, &str),
 ) -> Result<(), Fail> {
     for row in rows.split('\n') {
-        let (_place, row) = row.split_once(' ').ok_or("a row without words")?;
+        let (_place, row) = cut(row, " ")?;
         let (tag, rest) = changed(row, changes)?;
         if rest != "absent" {
             push_element(alloc, bytes, headers, (tag_of(tag)?, rest))?;
@@ -108,7 +109,7 @@ fn push_rows(
 
 /// Gives the tag of a row, and the rest of the change with this tag, or else of the row.
 fn changed<'a>(row: &'a str, changes: &'a str) -> Result<(&'a str, &'a str), Fail> {
-    let (tag, usual) = row.split_once(' ').ok_or("a row without words")?;
+    let (tag, usual) = cut(row, " ")?;
     for change in changes.split("; ") {
         if let Some((other, rest)) = change.split_once(' ') {
             if other == tag {
@@ -123,7 +124,7 @@ fn changed<'a>(row: &'a str, changes: &'a str) -> Result<(&'a str, &'a str), Fai
 pub(crate) fn element<'a>(tag: &str, changes: &'a str) -> Result<&'a str, Fail> {
     for rows in SOURCE_ROWS {
         for row in rows.split('\n') {
-            let (_place, row) = row.split_once(' ').ok_or("a row without words")?;
+            let (_place, row) = cut(row, " ")?;
             if row.starts_with(tag) {
                 return Ok(changed(row, changes)?.1);
             }

@@ -1,6 +1,7 @@
 //! Bytes as text: words between spaces or line ends, each of hexadecimal digits, or of `'` and then characters, where
 //! `_` is a space and `~` a byte 00.
 
+use crate::cases::cut;
 use dd_elem::Tag;
 use std::alloc::{AllocError, Global};
 use std::test::Fail;
@@ -49,7 +50,7 @@ pub fn text_of(alloc: Global, bytes: &[u8]) -> Result<String, AllocError> {
 
 /// Reads a tag, `gggg,eeee`.
 pub fn tag_of(text: &str) -> Result<Tag, Fail> {
-    let (group, element) = text.split_once(',').ok_or("no tag")?;
+    let (group, element) = cut(text, ",")?;
     Ok(Tag {
         group: u16::from_str_radix(group, 16)?,
         element: u16::from_str_radix(element, 16)?,

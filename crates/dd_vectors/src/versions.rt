@@ -1,3 +1,4 @@
+use crate::cases::{cut, shown};
 use crate::source_file::element;
 use crate::texts::{bytes_of, text_of};
 use dd_catalogue::Catalogue;
@@ -104,8 +105,8 @@ pub fn fitting(parts: Parts) -> Result<Version, Fail> {
 }
 
 fn version_with(alloc: Global, line: &str) -> Result<Version, Fail> {
-    let (digest, line) = line.split_once(' ').ok_or("no digest")?;
-    let (description, rest) = line.split_once(' ').ok_or("no description")?;
+    let (digest, line) = cut(line, " ")?;
+    let (description, rest) = cut(line, " ")?;
     let changes = format!(in alloc; "0008,0018 UI {rest}")?;
     let mut parts = parts_with(alloc, changes.as_str())?;
     parts.digest = [digest.parse()?; 32];
@@ -116,7 +117,7 @@ fn version_with(alloc: Global, line: &str) -> Result<Version, Fail> {
 /// Makes the version with this letter.
 pub fn image(alloc: Global, letter: char) -> Result<Version, Fail> {
     for line in IMAGES.split('\n') {
-        let (name, line) = line.split_once(' ').ok_or("no letter")?;
+        let (name, line) = cut(line, " ")?;
         if name.starts_with(letter) {
             return version_with(alloc, line);
         }
@@ -159,5 +160,5 @@ pub fn in_words(alloc: Global, version: &Version) -> Result<String, Fail> {
     let parts = version.parts();
     let (digest, instance) = (parts.digest[0], parts.instance);
     let description = text_of(alloc, parts.study.description.as_bytes())?;
-    Ok(format!(in alloc; "{digest} {description} {instance}")?)
+    shown(alloc, format_args!("{digest} {description} {instance}"))
 }

@@ -1,6 +1,7 @@
 //! Calls of the files of the system over a disc in memory, as the lines of cases name them, and their outcomes.
 
 use crate::disc::{Call, Disc, DiscFiles};
+use crate::disc_file::borrowed;
 use crate::power_cut::Kind;
 use dd_elem::{Read, Write};
 use dd_files::{Files, FoundPaths, Hints, LinkFault, Progress, Step};
@@ -82,10 +83,8 @@ fn prepare(disc: &mut Disc, verb: &str, what: &str) -> Result<bool, Fail> {
 }
 
 fn is_prepared(disc: &RefCell<Disc>, verb: &str, what: &str) -> Result<bool, Fail> {
-    match disc.try_borrow_mut() {
-        Ok(mut disc) => prepare(&mut disc, verb, what),
-        Err(_) => Err("the disc is in use".into()),
-    }
+    let mut disc = borrowed(disc)?;
+    prepare(&mut disc, verb, what)
 }
 
 pub(crate) fn write_all(files: &mut HostFiles<'_, DiscFiles<'_>>, bytes: &[u8]) -> bool {
@@ -239,6 +238,24 @@ fn counts(files: &mut HostFiles<'_, DiscFiles<'_>>, verb: &str, what: &str) -> R
     Ok(true)
 }
 
+fn is_answered(
+    files: &mut HostFiles<'_, DiscFiles<'_>>,
+    verb: &str,
+    what: &str,
+    said: &mut String,
+) -> Result<bool, Fail> {
+    match verb {
+        "unstored" => said.push_str(files.unstored())?,
+        "second" => said.push_str(second(files, what))?,
+        "stored" => said.push_str(stored(files, what)?)?,
+        "free" => said.push_str(yes_or_no(files.is_free(what)))?,
+        "is" => said.push_str(yes_or_no(files.is_folder(what)))?,
+        "cause" => said.push_str(files.cause().as_str())?,
+        _ => return Ok(false),
+    }
+    Ok(true)
+}
+
 // Makes a call or prepares the disc for one, and adds the outcome.
 fn tell(
     alloc: Global,
@@ -251,13 +268,10 @@ fn tell(
     match verb {
         "read" | "find" | "exact" | "names" => return read(alloc, files, verb, what, said),
         "where" => return look_up(files, what, said),
-        "unstored" => return Ok(said.push_str(files.unstored())?),
-        "second" => return Ok(said.push_str(second(files, what))?),
-        "stored" => return Ok(said.push_str(stored(files, what)?)?),
-        "free" => return Ok(said.push_str(yes_or_no(files.is_free(what)))?),
-        "is" => return Ok(said.push_str(yes_or_no(files.is_folder(what)))?),
-        "cause" => return Ok(said.push_str(files.cause().as_str())?),
         _ => {}
+    }
+    if is_answered(files, verb, what, said)? {
+        return Ok(());
     }
     let sign = if counts(files, verb, what)? || is_prepared(disc, verb, what)? {
         '.'
@@ -285,11 +299,17 @@ fn tell_all(
     Ok(())
 }
 
-pub(crate) fn in_words(alloc: Global, disc: &RefCell<Disc>, calls: &str) -> Result<String, Fail> {
+fn in_words(alloc: Global, disc: &RefCell<Disc>, calls: &str) -> Result<String, Fail> {
     let rt = DiscFiles(disc);
     let last = LastRefusal::new();
     let mut files = HostFiles::new(alloc, &rt, &last, Lanes::Four);
     let mut said = String::new(alloc);
     tell_all(alloc, disc, &mut files, calls, &mut said)?;
     Ok(said)
+}
+
+pub(crate) fn told(alloc: Global, calls: &str) -> Result<(String, Disc), Fail> {
+    let disc = RefCell::new(Disc::new(alloc)?);
+    let said = in_words(alloc, &disc, calls)?;
+    Ok((said, disc.into_inner()))
 }

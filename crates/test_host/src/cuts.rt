@@ -1,8 +1,6 @@
-use crate::calls::in_words;
-use crate::disc::Disc;
-use dd_vectors::claim_all;
+use crate::calls::told;
+use dd_vectors::{claim_all, cut};
 use std::alloc::Global;
-use std::cell::RefCell;
 use std::test::Fail;
 
 // In each line the calls of a run, all of which work: with no image, with a folder that is there, with folders above it
@@ -24,9 +22,7 @@ limit 1, folder o/p/s, create o/p/s/i, write abc, finish, batch, folder o/q/s, c
 batch, folder o, store, create o/DICOMDIR, write xyz, finish, store";
 
 fn is_safe(alloc: Global, calls: &str) -> Result<bool, Fail> {
-    let disc = RefCell::new(Disc::new(alloc)?);
-    let said = in_words(alloc, &disc, calls)?;
-    let disc = disc.into_inner();
+    let (said, disc) = told(alloc, calls)?;
     Ok(!said.as_str().contains('-') && disc.broken() == 0 && disc.lasts())
 }
 
@@ -58,17 +54,15 @@ fn calls_of(alloc: Global, kind: [&str; 3], images: u32, open: u32) -> Result<St
 }
 
 fn is_batched(alloc: Global, case: &str) -> Result<bool, Fail> {
-    let (kind, numbers) = case.split_once(' ').ok_or("no kind")?;
-    let (images, open) = numbers.split_once(' ').ok_or("no numbers")?;
+    let (kind, numbers) = cut(case, " ")?;
+    let (images, open) = cut(numbers, " ")?;
     let kind = if kind == "files" { FILES } else { NAMES };
     let calls = calls_of(alloc, kind, images.parse()?, open.parse()?)?;
     is_safe(alloc, calls.as_str())
 }
 
 fn is_lost(alloc: Global, calls: &str) -> Result<bool, Fail> {
-    let disc = RefCell::new(Disc::new(alloc)?);
-    in_words(alloc, &disc, calls)?;
-    let disc = disc.into_inner();
+    let (_said, disc) = told(alloc, calls)?;
     Ok(disc.broken() > 0 && !disc.lasts())
 }
 
@@ -98,11 +92,9 @@ a/../b > a/..";
 
 // Says whether a new file at the path has its name stored in that folder, and in no other.
 fn is_named_there(alloc: Global, case: &str) -> Result<bool, Fail> {
-    let (path, folder) = case.split_once(" > ").ok_or("no folder")?;
-    let disc = RefCell::new(Disc::new(alloc)?);
+    let (path, folder) = cut(case, " > ")?;
     let calls = format!(in alloc; "dir {folder}, create {path}, finish, batch, store")?;
-    in_words(alloc, &disc, calls.as_str())?;
-    let disc = disc.into_inner();
+    let (_said, disc) = told(alloc, calls.as_str())?;
     let wanted = format!(in alloc; "make {path}, store {path}, store {folder}")?;
     Ok(disc.log() == wanted.as_str())
 }

@@ -1,7 +1,7 @@
 //! A disc in memory in place of the files of the system. One call of it can be made to fail.
 ghost use Rattle.std.specs.Io.{ReadsAtMost};
 
-use crate::disc_file::DiscFile;
+use crate::disc_file::{DiscFile, borrowed};
 use crate::power_cut::{Entry, Kind, all_last, may_break, parent};
 use crate::screen::Screen;
 use std::alloc::{Allocator, Global};
@@ -312,10 +312,6 @@ fn error_of(kind: ErrorKind) -> io::Error {
     }
 }
 
-pub(crate) fn in_use() -> io::Error {
-    io::Error::other("the disc is in use")
-}
-
 #[derive(Clone, Copy)]
 pub(crate) struct DiscFiles<'a>(pub(crate) &'a RefCell<Disc>);
 
@@ -326,7 +322,7 @@ impl<'a> Files for DiscFiles<'a> {
 
     fn open_file(&self, how: &OpenOptions, path: &str) -> io::Result<DiscFile<'a>> {
         how.check()?;
-        let mut disc = self.0.try_borrow_mut().map_err(|_| in_use())?;
+        let mut disc = borrowed(self.0)?;
         disc.pass(if how.asks_write() {
             Call::Create
         } else {
@@ -346,7 +342,7 @@ impl<'a> Files for DiscFiles<'a> {
     }
 
     fn metadata(&self, path: &str) -> io::Result<Metadata> {
-        let mut disc = self.0.try_borrow_mut().map_err(|_| in_use())?;
+        let mut disc = borrowed(self.0)?;
         match disc.kind(path) {
             Some(Kind::Link) => Ok(Metadata::of_dir()),
             _ => disc.look_at(path),
@@ -354,7 +350,7 @@ impl<'a> Files for DiscFiles<'a> {
     }
 
     fn create_dir(&self, path: &str) -> io::Result<()> {
-        let mut disc = self.0.try_borrow_mut().map_err(|_| in_use())?;
+        let mut disc = borrowed(self.0)?;
         disc.pass(Call::Folder)?;
         disc.note("folder", path)?;
         disc.has_room_for(path)?;
@@ -363,7 +359,7 @@ impl<'a> Files for DiscFiles<'a> {
     }
 
     fn hard_link(&self, original: &str, link: &str) -> io::Result<()> {
-        let mut disc = self.0.try_borrow_mut().map_err(|_| in_use())?;
+        let mut disc = borrowed(self.0)?;
         disc.link(original, link)
     }
 
@@ -372,7 +368,7 @@ impl<'a> Files for DiscFiles<'a> {
     }
 
     fn symlink_metadata(&self, path: &str) -> io::Result<Metadata> {
-        let mut disc = self.0.try_borrow_mut().map_err(|_| in_use())?;
+        let mut disc = borrowed(self.0)?;
         disc.look_at(path)
     }
 

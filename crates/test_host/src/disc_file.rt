@@ -1,9 +1,16 @@
 ghost use Rattle.std.specs.Io.{ReadsAtMost};
 
-use crate::disc::{Call, Disc, STEP, in_use};
-use std::cell::RefCell;
+use crate::disc::{Call, Disc, STEP};
+use std::cell::{RefCell, RefMut};
 use std::fs::{Metadata, OpenFile};
 use std::io::{self, ErrorKind, Read, Seek, SeekFrom, Write};
+
+pub(crate) fn borrowed(disc: &RefCell<Disc>) -> io::Result<RefMut<'_, Disc>> {
+    match disc.try_borrow_mut() {
+        Ok(disc) => Ok(disc),
+        Err(_) => Err(io::Error::other("the disc is in use")),
+    }
+}
 
 /// An open file of a disc. Writes go to its end.
 pub(crate) struct DiscFile<'a> {
@@ -27,7 +34,7 @@ impl Drop for DiscFile<'_> {
 
 impl Read for DiscFile<'_> {
     fn read(&mut self, buf: &mut [u8]) -> io::Result<usize> {
-        let mut disc = self.disc.try_borrow_mut().map_err(|_| in_use())?;
+        let mut disc = borrowed(self.disc)?;
         disc.pass(Call::Read)?;
         let n = disc.read(self.place, self.from, buf)?;
         self.from = self.from.saturating_add(n);
@@ -37,7 +44,7 @@ impl Read for DiscFile<'_> {
 
 impl Write for DiscFile<'_> {
     fn write(&mut self, bytes: &[u8]) -> io::Result<usize> {
-        let mut disc = self.disc.try_borrow_mut().map_err(|_| in_use())?;
+        let mut disc = borrowed(self.disc)?;
         disc.pass(Call::Write)?;
         let taken = &bytes[..bytes.len().min(STEP)];
         disc.add(self.place, taken)?;
@@ -57,7 +64,7 @@ impl Seek for DiscFile<'_> {
 
 impl OpenFile for DiscFile<'_> {
     fn sync_all(&self) -> io::Result<()> {
-        let mut disc = self.disc.try_borrow_mut().map_err(|_| in_use())?;
+        let mut disc = borrowed(self.disc)?;
         disc.store(self.place)
     }
 
@@ -66,7 +73,7 @@ impl OpenFile for DiscFile<'_> {
     }
 
     fn metadata(&self) -> io::Result<Metadata> {
-        let mut disc = self.disc.try_borrow_mut().map_err(|_| in_use())?;
+        let mut disc = borrowed(self.disc)?;
         disc.pass(Call::LookAtOpen)?;
         disc.metadata(self.place)
     }

@@ -1,10 +1,10 @@
 //! Reads back what was written, and checks each outcome and the order in which all is stored.
 
-use crate::calls::{all_of, in_words, write_all};
+use crate::calls::{all_of, told, write_all};
 use crate::disc::{Disc, DiscFiles};
 use dd_files::Files;
 use dd_slots::Lanes;
-use dd_vectors::claim_all;
+use dd_vectors::{claim_all, cut};
 use dicomdir_host::{HostFiles, LastRefusal};
 use std::alloc::Global;
 use std::cell::RefCell;
@@ -103,21 +103,17 @@ pause folder, folder d, store > . + + > folder d, store ., store d
 pause made, folder d, store > . + + > folder d, folder d, store ., store d";
 
 fn is_right(alloc: Global, case: &str) -> Result<bool, Fail> {
-    let (calls, wanted) = case.split_once(" > ").ok_or("no answers")?;
-    let (answers, left) = wanted.split_once(" >").ok_or("no bytes")?;
-    let disc = RefCell::new(Disc::new(alloc)?);
-    let said = in_words(alloc, &disc, calls)?;
-    let disc = disc.into_inner();
+    let (calls, wanted) = cut(case, " > ")?;
+    let (answers, left) = cut(wanted, " >")?;
+    let (said, disc) = told(alloc, calls)?;
     let found = disc.bytes("a").unwrap_or(b"none");
     Ok(said.as_str() == answers && found == left.trim_start().as_bytes())
 }
 
 fn is_in_order(alloc: Global, case: &str) -> Result<bool, Fail> {
-    let (calls, wanted) = case.split_once(" > ").ok_or("no answers")?;
-    let (answers, log) = wanted.split_once(" > ").ok_or("no log")?;
-    let disc = RefCell::new(Disc::new(alloc)?);
-    let said = in_words(alloc, &disc, calls)?;
-    let disc = disc.into_inner();
+    let (calls, wanted) = cut(case, " > ")?;
+    let (answers, log) = cut(wanted, " > ")?;
+    let (said, disc) = told(alloc, calls)?;
     Ok(said.as_str() == answers && disc.log() == log)
 }
 

@@ -1,10 +1,8 @@
 //! Files of file-sets in the spellings of systems, their hard links, symbolic links, and what was opened.
 
-use crate::calls::in_words;
-use crate::disc::Disc;
-use dd_vectors::claim_all;
+use crate::calls::told;
+use dd_vectors::{claim_all, cut};
 use std::alloc::Global;
-use std::cell::RefCell;
 use std::test::Fail;
 
 // In each line calls, and then their outcomes. A file or a folder below another one is named by that folder and its
@@ -143,16 +141,14 @@ dir d/P, file d/P/A, find d: d/P/A, find d: d/P/A, find d: d/Q/A > \
 d/P, d/P/A, d/P/A, d/Q, d/q, d/Q.;1, d/Q;1, d/Q., d/q.;1, d/q;1, d/q.";
 
 fn is_found(alloc: Global, case: &str) -> Result<bool, Fail> {
-    let (calls, wanted) = case.split_once(" > ").ok_or("no answers")?;
-    let disc = RefCell::new(Disc::new(alloc)?);
-    Ok(in_words(alloc, &disc, calls)?.as_str() == wanted)
+    let (calls, wanted) = cut(case, " > ")?;
+    let (said, _disc) = told(alloc, calls)?;
+    Ok(said.as_str() == wanted)
 }
 
 fn is_looked_for(alloc: Global, case: &str) -> Result<bool, Fail> {
-    let (calls, wanted) = case.split_once(" > ").ok_or("no looks")?;
-    let disc = RefCell::new(Disc::new(alloc)?);
-    in_words(alloc, &disc, calls)?;
-    let disc = disc.into_inner();
+    let (calls, wanted) = cut(case, " > ")?;
+    let (_said, disc) = told(alloc, calls)?;
     Ok(disc.looks() == wanted)
 }
 

@@ -1,10 +1,8 @@
 //! What a terminal gets to show progress.
 
-use crate::calls::in_words;
-use crate::disc::Disc;
-use dd_vectors::claim_all;
+use crate::calls::told;
+use dd_vectors::{claim_all, cut};
 use std::alloc::Global;
-use std::cell::RefCell;
 use std::test::Fail;
 
 // Each line has calls, and after ` >` what they wrote to the terminal: `<` goes back to the start of the line, and
@@ -35,10 +33,8 @@ reading 999, pass 10000, advance > <reading 1 of 999, 2 h left^[K
 copying 9, create a, finish, slow 600, batch, store, advance > <copying 1 of 9^[K";
 
 fn is_right(alloc: Global, case: &str) -> Result<bool, Fail> {
-    let (calls, shown) = case.split_once(" >").ok_or("no text")?;
-    let disc = RefCell::new(Disc::new(alloc)?);
-    in_words(alloc, &disc, calls)?;
-    let disc = disc.into_inner();
+    let (calls, shown) = cut(case, " >")?;
+    let (_said, disc) = told(alloc, calls)?;
     Ok(disc.screen.text.as_str() == shown.trim_start())
 }
 

@@ -1,6 +1,7 @@
 ghost use Rattle.std.specs.Io.{ReadsAtMost};
 
-use crate::disc::{Call, Disc, DiscFiles, in_use};
+use crate::disc::{Call, Disc, DiscFiles};
+use crate::disc_file::borrowed;
 use dicomdir_host::System;
 use std::alloc::Global;
 use std::cell::RefCell;
@@ -51,7 +52,7 @@ impl Drop for Terminal<'_> {
 
 impl Write for Terminal<'_> {
     fn write(&mut self, bytes: &[u8]) -> io::Result<usize> {
-        let mut disc = self.disc.try_borrow_mut().map_err(|_| in_use())?;
+        let mut disc = borrowed(self.disc)?;
         disc.pass(Call::Show)?;
         for byte in bytes {
             // So that a case can spell them.
@@ -72,7 +73,7 @@ impl Write for Terminal<'_> {
 
 impl Clock for DiscFiles<'_> {
     fn monotonic(&self) -> io::Result<Duration> {
-        let mut disc = self.0.try_borrow_mut().map_err(|_| in_use())?;
+        let mut disc = borrowed(self.0)?;
         disc.pass(Call::Clock)?;
         Ok(Duration::from_millis(disc.screen.time))
     }

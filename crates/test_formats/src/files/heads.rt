@@ -2,7 +2,7 @@
 
 use crate::files::vectors::{file_named, meta_of};
 use dd_part10::{Meta, head_size, write_head};
-use dd_vectors::{Sink, ask_all};
+use dd_vectors::{Sink, ask_all, shown};
 use std::alloc::Global;
 use std::test::Fail;
 
@@ -32,7 +32,7 @@ fn sent(alloc: Global, meta: &Meta, bytes: &[u8], mut sink: Sink) -> Result<Stri
         return Err("it holds other bytes".into());
     }
     let (size, held) = (head_size(meta), sink.bytes().len());
-    Ok(format!(in alloc; "{size}, {answer} [{held}]")?)
+    shown(alloc, format_args!("{size}, {answer} [{held}]"))
 }
 
 /// Sends the head of the file with this name, or that of V2 to a writer that fails after this many bytes.

@@ -2,7 +2,7 @@ use crate::files::vectors::file_named;
 use dd_elem::Uid;
 use dd_part10::{DicomFile, Meta, parse_file};
 use dd_set::{Element, Value};
-use dd_vectors::{SOURCE_ROWS, ask_all, text_of, v1};
+use dd_vectors::{SOURCE_ROWS, ask_all, shown, text_of, v1};
 use std::alloc::Global;
 use std::test::Fail;
 
@@ -41,7 +41,10 @@ pub(crate) fn in_words(alloc: Global, size: usize, file: &DicomFile<'_>) -> Resu
     let (place, count) = (file.set_at, file.set.elements.len());
     let (class, instance) = (file.meta.class, file.meta.instance);
     let transfer = file.meta.transfer;
-    Ok(format!(in alloc; "{size} {place} {class} {instance} {transfer} {count}")?)
+    shown(
+        alloc,
+        format_args!("{size} {place} {class} {instance} {transfer} {count}"),
+    )
 }
 
 fn described(alloc: Global, question: &str) -> Result<String, Fail> {
@@ -62,7 +65,10 @@ fn row_of(alloc: Global, element: &Element<'_>) -> Result<String, Fail> {
     };
     let (group, number) = (element.tag.group, element.tag.element);
     let value = text_of(alloc, bytes)?;
-    Ok(format!(in alloc; "{group:04X},{number:04X} {vr:?} {value}")?)
+    shown(
+        alloc,
+        format_args!("{group:04X},{number:04X} {vr:?} {value}"),
+    )
 }
 
 #[test]
@@ -87,7 +93,7 @@ fn syntax(alloc: Global, question: &str) -> Result<String, Fail> {
         transfer: Uid::new(question.as_bytes())?,
     };
     let found = meta.syntax();
-    Ok(format!(in alloc; "{found:?}")?)
+    shown(alloc, format_args!("{found:?}"))
 }
 
 #[test]

@@ -2,7 +2,7 @@
 
 use crate::files::vectors::{file_named, v1_changed};
 use dd_part10::{FileFault, StreamFault, parse_file, read_file};
-use dd_vectors::{ByteSource, ask_all, v1_with};
+use dd_vectors::{ByteSource, ask_all, cut, shown, v1_with};
 use std::alloc::Global;
 use std::test::Fail;
 
@@ -68,13 +68,13 @@ fn answer(alloc: Global, bytes: &[u8]) -> Result<String, Fail> {
         return Err("another answer from a reader".into());
     }
     match fault {
-        None => Ok(String::from_str(alloc, "taken")?),
+        None => shown(alloc, "taken"),
         Some(fault) => Ok(format!(in alloc; "{fault}")?),
     }
 }
 
 /// Cuts V1, or V1 with private information of these lengths, to this many bytes.
-fn cut(alloc: Global, question: &str) -> Result<String, Fail> {
+fn cut_short(alloc: Global, question: &str) -> Result<String, Fail> {
     let (count, name) = question.split_once(' ').unwrap_or((question, "v1"));
     let bytes = file_named(alloc, name)?;
     let front = bytes.get(..count.parse::<usize>()?).ok_or("fewer bytes")?;
@@ -83,12 +83,12 @@ fn cut(alloc: Global, question: &str) -> Result<String, Fail> {
 
 #[test]
 fn a_file_cut_short(rt: HostRuntime) -> Result<(), Fail> {
-    ask_all(rt.alloc(), CUT, cut)?;
-    ask_all(rt.alloc(), CUT_LONG, cut)
+    ask_all(rt.alloc(), CUT, cut_short)?;
+    ask_all(rt.alloc(), CUT_LONG, cut_short)
 }
 
 fn changed(alloc: Global, question: &str) -> Result<String, Fail> {
-    let (place, change) = question.split_once(' ').ok_or("no change")?;
+    let (place, change) = cut(question, " ")?;
     let bytes = v1_changed(alloc, place, change)?;
     answer(alloc, &bytes)
 }

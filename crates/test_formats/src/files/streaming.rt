@@ -1,8 +1,8 @@
 use crate::files::vectors::{file_named, meta_of, v1_changed};
+use crate::sets::scanning::push_found;
 use dd_elem::Tag;
 use dd_part10::{Meta, Scanned, StreamFault, parse_file, read_file};
-use dd_scan::{Found, FoundValue};
-use dd_vectors::{ByteSource, ask_all, reader_of, tag_of, tags_of, text_of, v1};
+use dd_vectors::{ByteSource, ask_all, cut, reader_of, shown, tag_of, tags_of, v1};
 use std::alloc::Global;
 use std::test::Fail;
 
@@ -50,18 +50,6 @@ const LONG_GROUPS: &str = "\
 1026 864 > 1348 1170 as parsed; (0010,0020) 'P1 2
 65536 65374 > 65858 65680 as parsed; (0010,0020) 'P1 2";
 
-fn value(alloc: Global, found: &Found) -> Result<String, Fail> {
-    let tag = found.tag;
-    match &found.value {
-        FoundValue::Items => Ok(format!(in alloc; "; {tag} items")?),
-        FoundValue::Fragments => Ok(format!(in alloc; "; {tag} fragments")?),
-        FoundValue::Bytes { front, length } => {
-            let front = text_of(alloc, front)?;
-            Ok(format!(in alloc; "; {tag} {front} {length}")?)
-        }
-    }
-}
-
 /// Says whether the meta information is this one, and for each element that was found `items`, `fragments`, or the
 /// front of its value and the length; or the fault.
 pub(crate) fn in_words(
@@ -71,21 +59,19 @@ pub(crate) fn in_words(
 ) -> Result<String, Fail> {
     let scanned = match answer {
         Ok(scanned) => scanned,
-        Err(fault) => return Ok(format!(in alloc; "{fault}")?),
+        Err(fault) => return shown(alloc, fault),
     };
     if scanned.meta != *parsed {
         return Err("other meta information".into());
     }
     let mut text = String::from_str(alloc, "as parsed")?;
-    for found in &scanned.found {
-        text.push_str(value(alloc, found)?.as_str())?;
-    }
+    push_found(alloc, &mut text, &scanned.found)?;
     Ok(text)
 }
 
 fn read(alloc: Global, question: &str) -> Result<String, Fail> {
-    let (place, rest) = question.split_once(' ').ok_or("no place")?;
-    let (change, rest) = rest.split_once(' ').ok_or("no bytes")?;
+    let (place, rest) = cut(question, " ")?;
+    let (change, rest) = cut(rest, " ")?;
     let file = v1_changed(alloc, place, change)?;
     let (mut reader, limit, words) = reader_of(&file, rest)?;
     let wanted = tags_of(alloc, words)?;
@@ -119,7 +105,7 @@ fn read_long(alloc: Global, question: &str) -> Result<String, Fail> {
     let answer = read_file(alloc, &mut reader, &[tag_of("0010,0020")?], 65_858);
     let told = in_words(alloc, answer, &file.meta)?;
     let (size, place) = (bytes.len(), file.set_at);
-    Ok(format!(in alloc; "{size} {place} {told}")?)
+    shown(alloc, format_args!("{size} {place} {told}"))
 }
 
 #[test]

@@ -1,11 +1,12 @@
 use crate::sets::outlines::outline;
 use crate::sets::scanning::in_words;
 use crate::sets::spellings::{IMAGES, PATIENT_ID, PIXEL_DATA, set_of, spelled};
-use dd_elem::{Read, Tag};
+use dd_elem::{Memory, Read, Tag};
 use dd_scan::{Scan, ScanFault, scan, take_set};
 use dd_set::{DataSet, SetFault, Stream, Syntax, write_set};
 use dd_vectors::{
-    ByteSource, Sink, answered, question, refuse_allocation, refuse_each, require, was_refused,
+    ByteSource, Sink, answered, question, refuse_allocation, refuse_each, refuse_in_turn, require,
+    was_refused,
 };
 use std::alloc::Global;
 use std::test::Fail;
@@ -56,29 +57,23 @@ fn allocations_of_parse(rt: HostRuntime) -> Result<(), Fail> {
     Ok(())
 }
 
-fn item_starts_refused(alloc: Global, chosen: u32) -> Result<bool, Fail> {
-    let line = "explicit 08006000 4353 0200 4354 08004011 5351 0000 1a000000 feff00e0 00000000 \
-                feff00e0 0a000000 10002000 4c4f 0200 5031";
-    let (syntax, bytes) = spelled(alloc, line)?;
-    let set = set_of(alloc, syntax, &bytes)?;
-    refuse_allocation(alloc, chosen)?;
-    let answer = set.item_starts(alloc, syntax, IMAGES);
-    let refused = was_refused(alloc, answer.is_err())?;
-    let starts = match answer {
-        Ok(starts) => starts,
-        Err(_) => set.item_starts(alloc, syntax, IMAGES)?,
-    };
-    let starts = starts.ok_or("no items")?;
-    require(
-        starts.as_slice() == [22, 30].as_slice(),
-        "the items start there",
-    )?;
-    Ok(refused)
+pub(crate) fn is_memory(_fault: &Memory) -> bool {
+    true
 }
 
 #[test]
 fn allocations_of_item_starts(rt: HostRuntime) -> Result<(), Fail> {
-    refuse_each(rt.alloc(), item_starts_refused)
+    let alloc = rt.alloc();
+    let line = "explicit 08006000 4353 0200 4354 08004011 5351 0000 1a000000 feff00e0 00000000 \
+                feff00e0 0a000000 10002000 4c4f 0200 5031";
+    let (syntax, bytes) = spelled(alloc, line)?;
+    let set = set_of(alloc, syntax, &bytes)?;
+    let starts = refuse_in_turn(alloc, || set.item_starts(alloc, syntax, IMAGES), is_memory)?;
+    let starts = starts.ok_or("no items")?;
+    require(
+        starts.as_slice() == [22, 30].as_slice(),
+        "the items start there",
+    )
 }
 
 const WANTED: [Tag; 3] = [PATIENT_ID, IMAGES, PIXEL_DATA];
@@ -130,22 +125,16 @@ fn taken(alloc: Global, syntax: Syntax, bytes: &[u8]) -> Result<Scan, SetFault> 
     take_set(alloc, &mut Stream::new(&mut reader, 4096), syntax, &WANTED)
 }
 
-fn take_set_refused(alloc: Global, chosen: u32) -> Result<bool, Fail> {
-    let (syntax, bytes) = spelled(alloc, question(SCANNED))?;
-    refuse_allocation(alloc, chosen)?;
-    let answer = taken(alloc, syntax, &bytes);
-    let refused = was_refused(alloc, matches!(&answer, Err(SetFault::Memory)))?;
-    let scan = match answer {
-        Ok(scan) => scan,
-        Err(_) => taken(alloc, syntax, &bytes)?,
-    };
-    require_told(alloc, SCANNED, Ok(scan))?;
-    Ok(refused)
-}
-
 #[test]
 fn allocations_of_take_set(rt: HostRuntime) -> Result<(), Fail> {
-    refuse_each(rt.alloc(), take_set_refused)
+    let alloc = rt.alloc();
+    let (syntax, bytes) = spelled(alloc, question(SCANNED))?;
+    let scan = refuse_in_turn(
+        alloc,
+        || taken(alloc, syntax, &bytes),
+        |fault| matches!(fault, SetFault::Memory),
+    )?;
+    require_told(alloc, SCANNED, Ok(scan))
 }
 
 /// A refused allocation is a write that fails: the writer holds a front of the set then, and what is written again

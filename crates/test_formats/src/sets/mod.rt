@@ -6,6 +6,6 @@ mod json;
 mod outlines;
 mod reading;
 mod refusals;
-mod scanning;
+pub(crate) mod scanning;
 mod sending;
 pub(crate) mod spellings;

@@ -10,11 +10,11 @@ use std::test::Fail;
 pub(crate) fn outline(alloc: Global, set: &DataSet<'_>) -> Result<String, Fail> {
     let mut text = String::new(alloc);
     for element in &set.elements {
-        push_head(alloc, &mut text, element)?;
+        push_head(&mut text, element)?;
         match &element.value {
             Value::Bytes(bytes) => text.push_str(text_of(alloc, bytes)?.as_str())?,
             Value::Items { length, items } => {
-                text.push_str(format!(in alloc; "{length:?}")?.as_str())?;
+                write!(text, "{length:?}")?;
                 push_items(alloc, &mut text, items)?;
             }
             Value::Fragments(fragments) => push_fragments(alloc, &mut text, fragments)?,
@@ -23,14 +23,14 @@ pub(crate) fn outline(alloc: Global, set: &DataSet<'_>) -> Result<String, Fail> 
     Ok(text)
 }
 
-fn push_head(alloc: Global, text: &mut String, element: &Element<'_>) -> Result<(), Fail> {
+fn push_head(text: &mut String, element: &Element<'_>) -> Result<(), Fail> {
     if !text.is_empty() && !text.as_str().ends_with('[') {
         text.push_str("; ")?;
     }
     let (tag, vr) = (element.tag, element.vr);
     match vr {
-        Some(vr) => text.push_str(format!(in alloc; "{tag} {vr:?} ")?.as_str())?,
-        None => text.push_str(format!(in alloc; "{tag} - ")?.as_str())?,
+        Some(vr) => write!(text, "{tag} {vr:?} ")?,
+        None => write!(text, "{tag} - ")?,
     }
     Ok(())
 }
@@ -39,7 +39,7 @@ fn push_fragments(alloc: Global, text: &mut String, fragments: &[&[u8]]) -> Resu
     text.push_str("Fragments")?;
     for fragment in fragments {
         let bytes = hex::encode(alloc, *fragment)?;
-        text.push_str(format!(in alloc; " [{bytes}]")?.as_str())?;
+        write!(text, " [{bytes}]")?;
     }
     Ok(())
 }
@@ -47,7 +47,7 @@ fn push_fragments(alloc: Global, text: &mut String, fragments: &[&[u8]]) -> Resu
 fn push_items(alloc: Global, text: &mut String, items: &[Item<'_>]) -> Result<(), Fail> {
     for item in items {
         let length = item.length;
-        text.push_str(format!(in alloc; " {length:?} [")?.as_str())?;
+        write!(text, " {length:?} [")?;
         push_plain(alloc, text, &item.set)?;
         text.push(']')?;
     }
@@ -56,7 +56,7 @@ fn push_items(alloc: Global, text: &mut String, items: &[Item<'_>]) -> Result<()
 
 fn push_plain(alloc: Global, text: &mut String, set: &DataSet<'_>) -> Result<(), Fail> {
     for element in &set.elements {
-        push_head(alloc, text, element)?;
+        push_head(text, element)?;
         match &element.value {
             Value::Bytes(bytes) => text.push_str(text_of(alloc, bytes)?.as_str())?,
             Value::Items { .. } => return Err("items within items".into()),

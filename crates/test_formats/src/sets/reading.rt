@@ -2,7 +2,7 @@ use crate::sets::outlines::outline;
 use crate::sets::spellings::{IMAGES, PATIENT_ID, set_of, spelled};
 use dd_elem::Tag;
 use dd_set::{DataSet, Element, Syntax, Value};
-use dd_vectors::{ask_all, tag_of, text_of};
+use dd_vectors::{ask_all, shown, tag_of, text_of};
 use std::alloc::Global;
 use std::test::Fail;
 
@@ -126,7 +126,10 @@ fn measured(alloc: Global, question: &str) -> Result<String, Fail> {
     let implicit = set.size(Syntax::Implicit);
     let encapsulated = set.size(Syntax::Encapsulated);
     let starts = last_starts(alloc, syntax, &set)?;
-    Ok(format!(in alloc; "{explicit:?} {implicit:?} {encapsulated:?}, {starts:?}")?)
+    shown(
+        alloc,
+        format_args!("{explicit:?} {implicit:?} {encapsulated:?}, {starts:?}"),
+    )
 }
 
 #[test]
@@ -154,13 +157,13 @@ fn where_no_items_start(rt: HostRuntime) -> Result<(), Fail> {
 
 fn in_words(alloc: Global, element: Option<&Element<'_>>) -> Result<String, Fail> {
     let Some(element) = element else {
-        return Ok(String::from_str(alloc, "none")?);
+        return shown(alloc, "none");
     };
     let (Some(vr), Value::Bytes(bytes)) = (element.vr, &element.value) else {
         return Err("no bytes in Explicit VR".into());
     };
     let value = text_of(alloc, bytes)?;
-    Ok(format!(in alloc; "{vr:?} {value}")?)
+    shown(alloc, format_args!("{vr:?} {value}"))
 }
 
 fn found(alloc: Global, question: &str) -> Result<String, Fail> {

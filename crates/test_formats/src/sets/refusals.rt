@@ -3,7 +3,7 @@
 use crate::sets::spellings::{PIXEL_DATA, nested, set_of, spelled};
 use dd_scan::{ScanFault, scan};
 use dd_set::{SetFault, Syntax};
-use dd_vectors::{ByteSource, ask_all};
+use dd_vectors::{ByteSource, ask_all, cut, shown};
 use std::alloc::Global;
 use std::test::Fail;
 
@@ -109,8 +109,8 @@ fn answer(alloc: Global, syntax: Syntax, bytes: &[u8]) -> Result<String, Fail> {
         }
     }
     match fault {
-        None => Ok(String::from_str(alloc, "taken")?),
-        Some(fault) => Ok(format!(in alloc; "{fault}")?),
+        None => shown(alloc, "taken"),
+        Some(fault) => shown(alloc, fault),
     }
 }
 
@@ -126,7 +126,7 @@ fn the_first_check_that_fails(rt: HostRuntime) -> Result<(), Fail> {
     ask_all(rt.alloc(), NO_FRAGMENTS, refused)
 }
 
-fn cut(alloc: Global, question: &str) -> Result<String, Fail> {
+fn cut_short(alloc: Global, question: &str) -> Result<String, Fail> {
     let (syntax, bytes) = spelled(alloc, question)?;
     let size = bytes.len();
     let mut count = 0u32;
@@ -136,7 +136,7 @@ fn cut(alloc: Global, question: &str) -> Result<String, Fail> {
             count = count.saturating_add(1);
         }
     }
-    Ok(format!(in alloc; "{size} {count}")?)
+    shown(alloc, format_args!("{size} {count}"))
 }
 
 /// How deep sequences are nested, and what the innermost item holds; how many bytes spell them, and what becomes of
@@ -148,16 +148,16 @@ const DEEP: &str = "\
 33 encapsulated ' > 1188 10 TooDeep";
 
 fn deep(alloc: Global, question: &str) -> Result<String, Fail> {
-    let (levels, line) = question.split_once(' ').ok_or("no syntax")?;
+    let (levels, line) = cut(question, " ")?;
     let (syntax, inside) = spelled(alloc, line)?;
     let bytes = nested(alloc, levels.parse()?, &inside)?;
     let size = bytes.len();
     let answer = answer(alloc, syntax, &bytes)?;
-    Ok(format!(in alloc; "{size} {answer}")?)
+    shown(alloc, format_args!("{size} {answer}"))
 }
 
 #[test]
 fn fragments_cut_anywhere_and_items_32_levels_deep(rt: HostRuntime) -> Result<(), Fail> {
-    ask_all(rt.alloc(), CUT, cut)?;
+    ask_all(rt.alloc(), CUT, cut_short)?;
     ask_all(rt.alloc(), DEEP, deep)
 }

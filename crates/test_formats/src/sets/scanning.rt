@@ -1,8 +1,8 @@
 use crate::sets::spellings::{IMAGES, PATIENT_ID, PIXEL_DATA, spelled};
 use dd_elem::Tag;
-use dd_scan::{FoundValue, Scan, ScanFault, scan};
+use dd_scan::{Found, FoundValue, Scan, ScanFault, scan};
 use dd_set::Syntax;
-use dd_vectors::{ByteSource, ask_all, bytes_of, reader_of, tags_of, text_of, v1};
+use dd_vectors::{ByteSource, ask_all, bytes_of, reader_of, shown, tags_of, text_of, v1};
 use std::alloc::Global;
 use std::test::Fail;
 
@@ -88,26 +88,31 @@ encapsulated e07f1000 4f42 0000 ffffffff feff00e0 03000000 > 5 OddLength";
 pub(crate) fn in_words(alloc: Global, answer: Result<Scan, ScanFault>) -> Result<String, Fail> {
     let scan = match answer {
         Ok(scan) => scan,
-        Err(fault) => return Ok(format!(in alloc; "{fault}")?),
+        Err(fault) => return shown(alloc, fault),
     };
     let Some(first) = scan.first else {
-        return Ok(String::from_str(alloc, "empty")?);
+        return shown(alloc, "empty");
     };
     let mut text = format!(in alloc; "{first}")?;
-    for found in &scan.found {
+    push_found(alloc, &mut text, &scan.found)?;
+    Ok(text)
+}
+
+pub(crate) fn push_found(alloc: Global, text: &mut String, all: &[Found]) -> Result<(), Fail> {
+    for found in all {
         let tag = found.tag;
         match &found.value {
-            FoundValue::Items => text.push_str(format!(in alloc; "; {tag} items")?.as_str())?,
+            FoundValue::Items => write!(text, "; {tag} items")?,
             FoundValue::Fragments => {
-                text.push_str(format!(in alloc; "; {tag} fragments")?.as_str())?;
+                write!(text, "; {tag} fragments")?;
             }
             FoundValue::Bytes { front, length } => {
                 let front = text_of(alloc, front)?;
-                text.push_str(format!(in alloc; "; {tag} {front} {length}")?.as_str())?;
+                write!(text, "; {tag} {front} {length}")?;
             }
         }
     }
-    Ok(text)
+    Ok(())
 }
 
 fn scanned(alloc: Global, set: &[u8], question: &str) -> Result<String, Fail> {
@@ -176,7 +181,7 @@ fn long(alloc: Global, question: &str) -> Result<String, Fail> {
         Some(last) => char::from(*last),
     };
     let kept = front.len();
-    Ok(format!(in alloc; "{kept} {last} {length}")?)
+    shown(alloc, format_args!("{kept} {last} {length}"))
 }
 
 #[test]

@@ -1,6 +1,6 @@
 use dd_elem::Tag;
 use dd_set::{DataSet, SetFault, Syntax, parse};
-use dd_vectors::{bytes_of, push_bytes};
+use dd_vectors::{bytes_of, cut, push_bytes};
 use std::alloc::Global;
 use std::test::Fail;
 
@@ -22,7 +22,7 @@ pub(crate) const PIXEL_DATA: Tag = Tag {
 
 /// Reads a line `explicit WORDS`, `implicit WORDS` or `encapsulated WORDS`, whose words name bytes.
 pub(crate) fn spelled(alloc: Global, line: &str) -> Result<(Syntax, Vec<u8>), Fail> {
-    let (name, words) = line.split_once(' ').ok_or("no syntax")?;
+    let (name, words) = cut(line, " ")?;
     let syntax = match name {
         "explicit" => Syntax::Explicit,
         "implicit" => Syntax::Implicit,

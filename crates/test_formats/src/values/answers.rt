@@ -3,7 +3,7 @@
 //! which no answer of a parser shows.
 
 use dd_elem::Read;
-use dd_vectors::{ask_all, claim_all, reader_of};
+use dd_vectors::{ask_all, claim_all, reader_of, shown};
 use std::alloc::Global;
 use std::process::{ExitCode, Termination};
 use std::test::Fail;
@@ -22,7 +22,7 @@ fn the_reader_of_a_question(rt: HostRuntime) -> Result<(), Fail> {
 
 /// The question itself.
 fn echo(alloc: Global, question: &str) -> Result<String, Fail> {
-    Ok(String::from_str(alloc, question)?)
+    shown(alloc, question)
 }
 
 /// Says whether the case is this one letter.

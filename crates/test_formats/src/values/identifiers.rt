@@ -1,7 +1,7 @@
 //! UIDs, IDs of file-sets and File IDs.
 
 use dd_elem::{FileId, SetId, Uid, is_file_id};
-use dd_vectors::{ask_all, bytes_of, text_of};
+use dd_vectors::{ask_all, bytes_of, shown, text_of};
 use std::alloc::Global;
 use std::test::Fail;
 
@@ -74,20 +74,20 @@ fn uid(alloc: Global, question: &str) -> Result<String, Fail> {
     let bytes = bytes_of(alloc, question)?;
     match Uid::new(&bytes) {
         Ok(uid) => Ok(text_of(alloc, uid.as_bytes())?),
-        Err(bad) => Ok(format!(in alloc; "{bad}")?),
+        Err(bad) => shown(alloc, bad),
     }
 }
 
 fn digest_uid(alloc: Global, question: &str) -> Result<String, Fail> {
     let uid = Uid::from_digest(&[question.parse()?; 32]);
-    Ok(format!(in alloc; "{uid}")?)
+    shown(alloc, uid)
 }
 
 fn set_id(alloc: Global, question: &str) -> Result<String, Fail> {
     let bytes = bytes_of(alloc, question)?;
     match SetId::new(&bytes) {
         Ok(id) => Ok(text_of(alloc, id.as_bytes())?),
-        Err(bad) => Ok(format!(in alloc; "{bad}")?),
+        Err(bad) => shown(alloc, bad),
     }
 }
 
@@ -105,13 +105,13 @@ fn ranked(ranks: &str) -> Result<Option<FileId>, Fail> {
 fn file_id(alloc: Global, question: &str) -> Result<String, Fail> {
     match ranked(question)? {
         Some(id) => Ok(String::from_str(alloc, str::from_utf8(&id.text())?)?),
-        None => Ok(String::from_str(alloc, "none")?),
+        None => shown(alloc, "none"),
     }
 }
 
 fn is_taken(alloc: Global, question: &str) -> Result<String, Fail> {
     let is_taken = is_file_id(&bytes_of(alloc, question)?);
-    Ok(format!(in alloc; "{is_taken}")?)
+    shown(alloc, is_taken)
 }
 
 #[test]

@@ -1,11 +1,12 @@
-use crate::sets::allocations::is_at_end;
+use crate::sets::allocations::{is_at_end, is_memory};
 use crate::versions::ingesting::text_of_version;
 use crate::versions::reading::file_of;
 use dd_keys::{KeyFault, Version, ingest, version_of};
 use dd_part10::FileFault;
 use dd_set::SetFault;
 use dd_vectors::{
-    ByteSource, answered, question, refuse_allocation, refuse_each, require, was_refused,
+    ByteSource, answered, question, refuse_allocation, refuse_each, refuse_in_turn, require,
+    was_refused,
 };
 use std::alloc::Global;
 use std::test::Fail;
@@ -44,29 +45,16 @@ fn says_memory(fault: &KeyFault) -> bool {
     )
 }
 
-fn version_of_refused(alloc: Global, case: &str, chosen: u32) -> Result<bool, Fail> {
+fn version_of_refused(alloc: Global, case: &str) -> Result<(), Fail> {
     let bytes = file_of(alloc, question(case))?;
-    refuse_allocation(alloc, chosen)?;
-    let answer = version_of(alloc, &bytes);
-    let wants_memory = matches!(&answer, Err(fault) if says_memory(fault));
-    let refused = was_refused(alloc, wants_memory)?;
-    let version = match answer {
-        Ok(version) => version,
-        Err(_) => version_of(alloc, &bytes)?,
-    };
-    require_version(alloc, case, &version)?;
-    Ok(refused)
+    let version = refuse_in_turn(alloc, || version_of(alloc, &bytes), says_memory)?;
+    require_version(alloc, case, &version)
 }
 
 #[test]
 fn allocations_of_version_of(rt: HostRuntime) -> Result<(), Fail> {
-    for case in [LONG_KEYS, ENCAPSULATED] {
-        refuse_each(
-            rt.alloc(),
-            |alloc, chosen| version_of_refused(alloc, case, chosen),
-        )?;
-    }
-    Ok(())
+    version_of_refused(rt.alloc(), LONG_KEYS)?;
+    version_of_refused(rt.alloc(), ENCAPSULATED)
 }
 
 /// Reads a version from a reader, which is at its end afterwards, also where an allocation was refused.
@@ -98,20 +86,10 @@ fn allocations_of_ingest(rt: HostRuntime) -> Result<(), Fail> {
 }
 
 /// Copies a version, which shares its long keys.
-fn copy_of_version_refused(alloc: Global, chosen: u32) -> Result<bool, Fail> {
-    let version = version_of(alloc, &file_of(alloc, question(LONG_KEYS))?)?;
-    refuse_allocation(alloc, chosen)?;
-    let answer = version.copy();
-    let refused = was_refused(alloc, answer.is_err())?;
-    let copy = match answer {
-        Ok(copy) => copy,
-        Err(_) => version.copy()?,
-    };
-    require_version(alloc, LONG_KEYS, &copy)?;
-    Ok(refused)
-}
-
 #[test]
 fn no_allocations_of_copy_of_version(rt: HostRuntime) -> Result<(), Fail> {
-    refuse_each(rt.alloc(), copy_of_version_refused)
+    let alloc = rt.alloc();
+    let version = version_of(alloc, &file_of(alloc, question(LONG_KEYS))?)?;
+    let copy = refuse_in_turn(alloc, || version.copy(), is_memory)?;
+    require_version(alloc, LONG_KEYS, &copy)
 }

@@ -3,7 +3,7 @@ use crate::versions::refusals::with_patient_id;
 use dd_elem::Ordered;
 use dd_keys::{KeyFault, Version, ingest, ingest_kept, version_of};
 use dd_slots::Slot;
-use dd_vectors::{ByteSource, ask_all, push_bytes, v1, v1_encapsulated, v1_with};
+use dd_vectors::{ByteSource, ask_all, cut, push_bytes, shown, v1, v1_encapsulated, v1_with};
 use std::alloc::Global;
 use std::test::Fail;
 
@@ -89,9 +89,9 @@ fn outcome(alloc: Global, bytes: &[u8], answer: Result<Version, KeyFault>) -> Re
         Ok(version) => {
             let is_same = version.compare(&version_of(alloc, bytes)?).is_eq();
             let word = if is_same { "taken" } else { "another" };
-            Ok(String::from_str(alloc, word)?)
+            shown(alloc, word)
         }
-        Err(fault) => Ok(format!(in alloc; "{fault}")?),
+        Err(fault) => shown(alloc, fault),
     }
 }
 
@@ -108,19 +108,28 @@ fn version_by_slot(
     Ok(version)
 }
 
-/// Reads the file with and without a slot, and expects one outcome.
 fn ingested(alloc: Global, question: &str) -> Result<String, Fail> {
-    let (piece, rest) = question.split_once(' ').ok_or("no piece")?;
-    let (fails, rest) = rest.split_once(' ').ok_or("no failure")?;
-    let (limit, name) = rest.split_once(' ').ok_or("no file")?;
-    let bytes = file_of(alloc, name)?;
+    let (piece, rest) = cut(question, " ")?;
+    let (fails, rest) = cut(rest, " ")?;
+    let (limit, name) = cut(rest, " ")?;
     let (piece, fails, limit) = (piece.parse()?, fails.parse()?, limit.parse()?);
-    let mut source = ByteSource::new(&bytes, piece, Some(fails));
-    let answer = outcome(alloc, &bytes, ingest(alloc, &mut source, limit))?;
-    let mut source = ByteSource::new(&bytes, piece, Some(fails));
-    let kept = outcome(alloc, &bytes, version_by_slot(alloc, &mut source, limit))?;
+    let bytes = file_of(alloc, name)?;
+    outcomes(alloc, &bytes, (piece, fails), limit)
+}
+
+/// Reads the file with and without a slot, and expects one outcome.
+fn outcomes(
+    alloc: Global,
+    bytes: &[u8],
+    (piece, fails): (u64, u64),
+    limit: u64,
+) -> Result<String, Fail> {
+    let mut source = ByteSource::new(bytes, piece, Some(fails));
+    let answer = outcome(alloc, bytes, ingest(alloc, &mut source, limit))?;
+    let mut source = ByteSource::new(bytes, piece, Some(fails));
+    let kept = outcome(alloc, bytes, version_by_slot(alloc, &mut source, limit))?;
     if kept.as_str() != answer.as_str() {
-        return Ok(format!(in alloc; "{answer}, but {kept} by a slot")?);
+        return shown(alloc, format_args!("{answer}, but {kept} by a slot"));
     }
     Ok(answer)
 }
@@ -137,16 +146,16 @@ fn large_file(alloc: Global) -> Result<Vec<u8>, Fail> {
 pub(crate) fn text_of_version(alloc: Global, version: &Version) -> Result<String, Fail> {
     let digits = hex::encode(alloc, version.parts().digest)?;
     let keys = text_of_keys(alloc, version.parts())?;
-    Ok(format!(in alloc; "{digits} {keys}")?)
+    shown(alloc, format_args!("{digits} {keys}"))
 }
 
 fn large(alloc: Global, question: &str) -> Result<String, Fail> {
-    let (piece, limit) = question.split_once(' ').ok_or("no piece")?;
+    let (piece, limit) = cut(question, " ")?;
     let bytes = large_file(alloc)?;
     let mut source = ByteSource::new(&bytes, piece.parse()?, None);
     match ingest(alloc, &mut source, limit.parse()?) {
         Ok(version) => text_of_version(alloc, &version),
-        Err(fault) => Ok(format!(in alloc; "{fault}")?),
+        Err(fault) => shown(alloc, fault),
     }
 }
 

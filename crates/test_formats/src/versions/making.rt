@@ -1,6 +1,6 @@
 use dd_elem::{Key, Ordered, Uid};
 use dd_keys::{Parts, Version, version_of};
-use dd_vectors::{ask_all, bytes_of, fitting, parts_of, v1};
+use dd_vectors::{ask_all, bytes_of, cut, fitting, parts_of, shown, v1};
 use std::alloc::Global;
 use std::cmp::Ordering;
 use std::test::Fail;
@@ -90,7 +90,7 @@ fn put(alloc: Global, parts: &mut Parts, tag: &str, value: &[u8]) -> Result<(), 
 fn parts_with(alloc: Global, changes: &str) -> Result<Parts, Fail> {
     let mut parts = parts_of(&version_of(alloc, &v1(alloc)?)?)?;
     for change in changes.split("; ") {
-        let (tag, value) = change.split_once(' ').ok_or("no value")?;
+        let (tag, value) = cut(change, " ")?;
         put(alloc, &mut parts, tag, &bytes_of(alloc, value)?)?;
     }
     Ok(parts)
@@ -98,8 +98,8 @@ fn parts_with(alloc: Global, changes: &str) -> Result<Parts, Fail> {
 
 fn misfit(alloc: Global, question: &str) -> Result<String, Fail> {
     match Version::of(parts_with(alloc, question)?) {
-        Ok(_) => Ok(String::from_str(alloc, "fits")?),
-        Err(misfit) => Ok(format!(in alloc; "{misfit}")?),
+        Ok(_) => shown(alloc, "fits"),
+        Err(misfit) => shown(alloc, misfit),
     }
 }
 
@@ -109,7 +109,7 @@ fn the_least_tag_that_does_not_fit(rt: HostRuntime) -> Result<(), Fail> {
 }
 
 fn version(alloc: Global, line: &str) -> Result<Version, Fail> {
-    let (digest, changes) = line.split_once(' ').ok_or("no changes")?;
+    let (digest, changes) = cut(line, " ")?;
     let mut parts = parts_with(alloc, changes)?;
     parts.digest = [digest.parse()?; 32];
     fitting(parts)

@@ -4,7 +4,7 @@ use dd_elem::{KeyRefused, Memory};
 use dd_keys::{KeyFault, Parts, version_of};
 use dd_part10::FileFault;
 use dd_set::SetFault;
-use dd_vectors::{ask_all, v1, v1_with};
+use dd_vectors::{ask_all, cut, shown, v1, v1_with};
 use std::alloc::Global;
 use std::test::Fail;
 
@@ -65,7 +65,7 @@ const OTHER: &str = "\
 fn numbers(alloc: Global, bytes: &[u8]) -> Result<String, Fail> {
     match version_of(alloc, bytes) {
         Ok(version) => numbers_of(alloc, version.parts()),
-        Err(fault) => Ok(format!(in alloc; "{fault}")?),
+        Err(fault) => shown(alloc, fault),
     }
 }
 
@@ -73,7 +73,7 @@ fn numbers_of(alloc: Global, parts: &Parts) -> Result<String, Fail> {
     let study = str::from_utf8(parts.study.id.as_bytes())?;
     let series = str::from_utf8(parts.series.number.as_bytes())?;
     let number = str::from_utf8(parts.number.as_bytes())?;
-    Ok(format!(in alloc; "taken {study} {series} {number}")?)
+    shown(alloc, format_args!("taken {study} {series} {number}"))
 }
 
 fn front(alloc: Global, bytes: &[u8], size: usize) -> Result<String, Fail> {
@@ -81,15 +81,15 @@ fn front(alloc: Global, bytes: &[u8], size: usize) -> Result<String, Fail> {
 }
 
 /// Gives the outcome of each such front, or the first that differs.
-fn cut(alloc: Global, question: &str) -> Result<String, Fail> {
-    let (first, last) = question.split_once(' ').ok_or("no last")?;
+fn cut_short(alloc: Global, question: &str) -> Result<String, Fail> {
+    let (first, last) = cut(question, " ")?;
     let (first, last): (usize, usize) = (first.parse()?, last.parse()?);
     let bytes = v1(alloc)?;
     let common = front(alloc, &bytes, first)?;
     for size in first..=last {
         let answer = front(alloc, &bytes, size)?;
         if answer.as_str() != common.as_str() {
-            return Ok(format!(in alloc; "{answer} at {size}")?);
+            return shown(alloc, format_args!("{answer} at {size}"));
         }
     }
     Ok(common)
@@ -97,13 +97,13 @@ fn cut(alloc: Global, question: &str) -> Result<String, Fail> {
 
 #[test]
 fn no_version_of_a_file_cut_short(rt: HostRuntime) -> Result<(), Fail> {
-    ask_all(rt.alloc(), CUT, cut)
+    ask_all(rt.alloc(), CUT, cut_short)
 }
 
 fn other(alloc: Global, question: &str) -> Result<String, Fail> {
     match version_of(alloc, &v1_with(alloc, question)?) {
-        Ok(_) => Ok(String::from_str(alloc, "taken")?),
-        Err(fault) => Ok(format!(in alloc; "{fault}")?),
+        Ok(_) => shown(alloc, "taken"),
+        Err(fault) => shown(alloc, fault),
     }
 }
 
@@ -123,7 +123,7 @@ fn patient_id(alloc: Global, letters: u32, padding: &str) -> Result<String, Fail
 
 /// Makes V1 with such a Patient ID.
 pub(crate) fn with_patient_id(alloc: Global, words: &str) -> Result<Vec<u8>, Fail> {
-    let (letters, padding) = words.split_once(' ').ok_or("no padding")?;
+    let (letters, padding) = cut(words, " ")?;
     v1_with(
         alloc,
         patient_id(alloc, letters.parse()?, padding)?.as_str(),
@@ -134,9 +134,9 @@ fn long(alloc: Global, question: &str) -> Result<String, Fail> {
     match version_of(alloc, &with_patient_id(alloc, question)?) {
         Ok(version) => {
             let kept = version.parts().patient.id.as_bytes().len();
-            Ok(format!(in alloc; "{kept} bytes")?)
+            shown(alloc, format_args!("{kept} bytes"))
         }
-        Err(fault) => Ok(format!(in alloc; "{fault}")?),
+        Err(fault) => shown(alloc, fault),
     }
 }
 

@@ -39,26 +39,38 @@ fn a_slot_keeps_8_mib(rt: HostRuntime) -> Result<(), Fail> {
     require(bytes.len() == 8_388_608, "the slot has all bytes")
 }
 
-/// The digests of slots in this order and in the other, in each way to digest.
-fn four(alloc: Global, question: &str) -> Result<String, Fail> {
-    let (a, rest) = question.split_once(' ').ok_or("no second")?;
-    let (b, rest) = rest.split_once(' ').ok_or("no third")?;
-    let (c, d) = rest.split_once(' ').ok_or("no fourth")?;
-    let (a, b) = (slot_of_zeros(alloc, a)?, slot_of_zeros(alloc, b)?);
-    let (c, d) = (slot_of_zeros(alloc, c)?, slot_of_zeros(alloc, d)?);
-    let (front, back) = digest_slots(Lanes::Four, (&a, &b, &c, &d), (&d, &c, &b, &a));
-    require(
-        back == (front.3, front.2, front.1, front.0),
-        "the order is another",
-    )?;
-    let eight = digest_slots(Lanes::Eight, (&a, &b, &c, &d), (&d, &c, &b, &a));
-    require(eight == (front, back), "eight have other digests")?;
-    let mut text = hex::encode(alloc, front.0)?;
-    for digest in [front.1, front.2, front.3] {
-        text.push_str(" ")?;
-        text.push_str(&hex::encode(alloc, digest)?)?;
+fn slots_of_zeros(alloc: Global, sizes: &str) -> Result<Vec<Slot>, Fail> {
+    let mut slots = Vec::new(alloc);
+    for size in sizes.split(' ') {
+        slots.push(slot_of_zeros(alloc, size)?)?;
+    }
+    Ok(slots)
+}
+
+fn in_hex(alloc: Global, digests: &[[u8; 32]]) -> Result<String, Fail> {
+    let mut text = String::new(alloc);
+    for digest in digests {
+        let space = if text.is_empty() { "" } else { " " };
+        let digits = hex::encode(alloc, *digest)?;
+        write!(text, "{space}{digits}")?;
     }
     Ok(text)
+}
+
+/// The digests of slots in this order and in the other, in each way to digest.
+fn four(alloc: Global, question: &str) -> Result<String, Fail> {
+    let slots = slots_of_zeros(alloc, question)?;
+    let [a, b, c, d] = slots.as_slice() else {
+        return Err("not four slots".into());
+    };
+    let (front, back) = digest_slots(Lanes::Four, (a, b, c, d), (d, c, b, a));
+    let is_turned = back == (front.3, front.2, front.1, front.0);
+    let eight = digest_slots(Lanes::Eight, (a, b, c, d), (d, c, b, a));
+    require(
+        is_turned && eight == (front, back),
+        "the order or the way gives other digests",
+    )?;
+    in_hex(alloc, &[front.0, front.1, front.2, front.3])
 }
 
 #[test]
