@@ -299,7 +299,7 @@ def texts():
     japanese = b"Yamada^Tarou=\x1b$B;3ED\x1b(B^\x1b$BB@O:\x1b(B"
     same("ISO 2022 IR 87", _text.text_of(japanese, b"\\ISO 2022 IR 87"), "Yamada^Tarou=山田^太郎")
     same("no such set", _text.text_of(b"\xe9", b"NO SUCH SET"), "é")
-    there, _text._pydicom = _text._pydicom, None
+    there, _text._pydicom = _text._pydicom, lambda: None
     with warnings.catch_warnings(record=True) as said:
         warnings.simplefilter("always")
         same("alone: Latin-1", _text.text_of(b"M\xfcller", b"ISO_IR 100"), "Müller")
@@ -311,6 +311,8 @@ def texts():
         _text.text_of(b"\xb9", b"ISO_IR 144")
         same("alone: said once", [one.category for one in said], [UnicodeWarning])
     _text._pydicom = there
+    waits = "import sys, dicomdir; sys.exit(not {'pydicom', 'logging'}.isdisjoint(sys.modules))"
+    same("pydicom is imported when a value needs it", subprocess.run([sys.executable, "-c", waits]).returncode, 0)
 
 
 def prints():

@@ -4,7 +4,7 @@ from array import array
 from typing import (TYPE_CHECKING, Any, Callable, Dict, Iterable, Iterator, List, NamedTuple, Optional, Sequence, Tuple,
                     Union)
 
-from . import _bytes, _pydicom
+from . import _bytes
 from ._bytes import Data
 from ._faults import FAULTS, Fault, tag_text
 from ._opening import parts_of, path_below, read_member, read_source
@@ -167,11 +167,13 @@ class Record:
 
     def load(self) -> Any:
         """Its file, as pydicom's Dataset."""
-        return _pydicom.file(self.read())
+        from ._pydicom import file
+        return file(self.read())
 
     def dataset(self) -> Any:
         """All its own elements, with sequences, as pydicom's Dataset."""
-        return _pydicom.item(self.fileset.data, self.offset)
+        from ._pydicom import item
+        return item(self.fileset.data, self.offset)
 
     def __repr__(self) -> str:
         return printable(f"<{self.record_type} at {self.offset}: {self.path or self.PatientID}>")
@@ -304,7 +306,8 @@ class FileSet:
                        for name, column, value in columns)]
 
     def _loaded(self, row: int, name: str) -> Optional[str]:
-        return _pydicom.text_in(Record(self, row).read(), name)
+        from ._pydicom import text_in
+        return text_in(Record(self, row).read(), name)
 
     def find_values(self, elements: Union[str, Sequence[str]], instances: Optional[Iterable[Record]] = None
                     ) -> Union[List[Optional[str]], Dict[str, List[Optional[str]]]]:
