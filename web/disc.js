@@ -218,9 +218,14 @@ function faultOf(errors) {
   return { fault: { number: 0, words: errors.join(' ') } };
 }
 
+/** What docs/FAULTS.md says of a fault: those whose words are told apart stand before the others of their number. */
+function wordsOf({ number, words }) {
+  return FAULT_WORDS.find((it) => it.first <= number && number <= it.last && words.startsWith(it.words || ''));
+}
+
 /** What a fault says, and what to do: its number and words, the program's first step, and docs/FAULTS.md. */
 function faultParts({ fault, help, cause, path }) {
-  const found = FAULT_WORDS.find((it) => it.first <= fault.number && fault.number <= it.last);
+  const found = wordsOf(fault);
   return [
     element('p', { class: 'fault' }, element('code', {}, plain(fault.words)), ...(path ? [' in ', disc(path)] : [])),
     ...(cause ? [element('p', {}, plain(cause))] : []),

@@ -73,9 +73,9 @@ async function planSet(files) {
   $('plan').querySelector('h2')?.focus({ preventScroll: true });
 }
 
-// Why files are skipped, above the program's words, by the number of the fault (docs/FAULTS.md).
-const SKIPPED = new Map([[31, 'no DICOM file, cut, or in a form that is not taken'],
-  [32, 'of a class that is not taken'],
+// Why files are skipped, above the program's words, by the words or the number of the fault (docs/FAULTS.md).
+const SKIPPED = new Map([['31 File 21 ', 'no DICOM file'], ['31 File 25 ', 'in a form that is not taken'],
+  ['31 File 27 Set 1 ', 'cut'], [31, 'out of shape'], [32, 'of a class that is not taken'],
   [33, 'a key is missing'], [34, 'a key is no UID'], [35, 'a key is too long'], [36, 'a key is a sequence'],
   [37, 'a key is not as in the head of the file'], [39, 'too large']]);
 
@@ -122,15 +122,15 @@ function leftCards(lines) {
   if (noted.length) cards.push(listCard(`${counted(noted.length, 'note')}: look at these first`, noted, noteParts));
   const groups = new Map();
   for (const it of skipped) {
-    const { number } = it.fault;
-    if (!groups.has(number)) groups.set(number, []);
-    groups.get(number).push(it);
+    const kind = wordsOf(it.fault)?.words || it.fault.number;
+    if (!groups.has(kind)) groups.set(kind, []);
+    groups.get(kind).push(it);
   }
-  for (const [number, some] of groups) {
-    const found = FAULT_WORDS.find((it) => it.first <= number && number <= it.last);
-    const reason = SKIPPED.get(number) || plain(some[0].fault.name);
+  for (const [kind, some] of groups) {
+    const found = wordsOf(some[0].fault);
+    const reason = SKIPPED.get(kind) || plain(some[0].fault.name);
     cards.push(listCard(`${counted(some.length, 'file')} skipped: ${reason}`, some,
-      (it) => [disc(it.path), ' ', element('code', {}, plain(it.fault.words))],
+      (it) => [disc(it.path), ' ', element('code', {}, plain(it.fault.words)), ' ', plain(it.fault.class_name || '')],
       found && `${found.says} ${found.todo}`));
   }
   return cards;

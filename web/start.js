@@ -1,8 +1,13 @@
 // Begins: what the browser can't is said in one sentence; tabs, and what is dropped.
 
+// A module with a function that gives a vector. An old processor has none.
+const VECTOR = Uint8Array.of(0, 97, 115, 109, 1, 0, 0, 0, 1, 5, 1, 96, 0, 1, 123, 3, 2, 1, 0, 10, 10, 1, 8, 0, 65, 0,
+  253, 15, 253, 98, 11);
+
 /** What this page needs and the browser has not, if anything. */
 function lacking() {
   if (typeof WebAssembly !== 'object') return 'WebAssembly';
+  if (!WebAssembly.validate(VECTOR)) return 'WebAssembly SIMD';
   if (typeof DecompressionStream !== 'function') return 'DecompressionStream';
   if (typeof Worker !== 'function') return 'workers';
   if (typeof BigInt !== 'function' || typeof Object.hasOwn !== 'function') return 'the JavaScript of 2022';

@@ -31,24 +31,32 @@ const DEVICE = { mode: 0o020666, inode: 0, size: 0, modified: 0 };
 const UNWINDING = 1, REWINDING = 2;
 
 const refused = (name) => -(ERRORS[name] ?? ERRORS.EIO)[0];
+// No chosen file has a name that is not UTF-8.
+const PATHS = new TextDecoder('utf-8', { fatal: true, ignoreBOM: true });
+// A path with an empty part, `.` or `..`.
+const WINDING = /(^|\/)\.{0,2}(\/|$)/;
 
 // What stands at each path: the chosen files, their folders, and what the program makes.
 class Tree {
   #places = new Map([['', { mode: FOLDER, inode: 1, size: 0, modified: 0 }]]);
+  // Has a file the path of a folder, or of another file?
+  #isMixed = false;
 
   constructor(files, folders) {
     for (const path of folders) this.#addFolders(path.split('/'));
     files.forEach(([path, size, modified = 0], number) => {
       const names = path.split('/');
       this.#addFolders(names.slice(0, -1));
+      this.#isMixed ||= this.#places.has(path);
       this.add(path, { mode: PLAIN, size, modified, number });
     });
   }
 
   #addFolders(names) {
     for (let n = 1; n <= names.length; n++) {
-      const path = names.slice(0, n).join('/');
-      if (!this.#places.has(path)) this.add(path, { mode: FOLDER, size: 0, modified: 0 });
+      const path = names.slice(0, n).join('/'), place = this.#places.get(path);
+      if (!place) this.add(path, { mode: FOLDER, size: 0, modified: 0 });
+      else this.#isMixed ||= place.mode !== FOLDER;
     }
   }
 
@@ -59,8 +67,17 @@ class Tree {
     return place;
   }
 
-  // Walks from the folder that all is in. It gives the place, or the error; and the path where a new name can stand.
-  walk(path) {
+  // Gives the place at a path, or the error; and the path where a new name can stand. What is at hand needs no walk.
+  find(path) {
+    if (this.#isMixed || WINDING.test(path)) return this.#walk(path);
+    const place = this.#places.get(path);
+    if (place) return { place };
+    const above = this.#places.get(path.slice(0, Math.max(path.lastIndexOf('/'), 0)));
+    return above?.mode === FOLDER ? { error: 'ENOENT', free: path } : this.#walk(path);
+  }
+
+  // Walks from the folder that all is in.
+  #walk(path) {
     if (path === '/dev/null') return { place: DEVICE };
     const names = path.split('/').filter((name) => name !== '' && name !== '.');
     const isFolder = /(^|\/)\.{0,2}$/.test(path);
@@ -117,6 +134,7 @@ class Host {
   #tree;
   #words;
   #memory;
+  #bytes = new Uint8Array();
   #files = new Map();
   #next = 3;
   #outputs = new Map([[1, new Lines('out')], [2, new Lines('errors')]]);
@@ -140,26 +158,30 @@ class Host {
 
   #tell() { postMessage({ kind: 'progress', bytes: this.bytes, opened: this.opened.size }); }
 
-  #view(at, length) { return new Uint8Array(this.#memory.buffer, at >>> 0, length >>> 0); }
+  // Where the memory has grown, what was seen of it has no bytes any more.
+  #view(at, length) {
+    if (this.#bytes.length === 0) this.#bytes = new Uint8Array(this.#memory.buffer);
+    return this.#bytes.subarray(at >>> 0, (at >>> 0) + (length >>> 0));
+  }
 
-  // No chosen file has a name that is not UTF-8.
-  #walk(at, length) {
+  #find(at, length) {
+    let path;
     try {
-      return this.#tree.walk(new TextDecoder('utf-8', { fatal: true, ignoreBOM: true }).decode(this.#view(at, length)));
+      path = PATHS.decode(this.#view(at, length));
     } catch {
       return { error: 'ENOENT' };
     }
+    return this.#tree.find(path);
   }
 
   calls() {
-    const call = (name) => (...words) => this[name](...words);
     return Object.fromEntries(
       ['open', 'read', 'write', 'close', 'store', 'stat', 'folder', 'link', 'terminal', 'clock', 'word', 'words']
-        .map((name) => [name, call(name)]));
+        .map((name) => [name, this[name].bind(this)]));
   }
 
   open(at, length, flags) {
-    const { place, error, free } = this.#walk(at, length);
+    const { place, error, free } = this.#find(at, length);
     if (place && place !== DEVICE && (flags & WRITES) !== 0) return refused(flags & CREATES ? 'EEXIST' : 'EROFS');
     if (place) return this.#add(place);
     if (error !== 'ENOENT' || !(flags & CREATES) || !free) return refused(error);
@@ -272,13 +294,13 @@ class Host {
     let place = DEVICE;
     if (number >= 3) place = this.#files.get(number)?.place;
     if (number < 0) {
-      const walked = this.#walk(at, length);
-      if (walked.error) return refused(walked.error);
-      place = walked.place;
+      const found = this.#find(at, length);
+      if (found.error) return refused(found.error);
+      place = found.place;
     }
     if (!place) return refused('EBADF');
     const seconds = Math.floor(place.modified / 1000), rest = (place.modified - seconds * 1000) * 1e6;
-    const view = new DataView(this.#memory.buffer, to >>> 0);
+    const { buffer, byteOffset } = this.#view(to, 56), view = new DataView(buffer, byteOffset, 56);
     [place.mode, 1, place.inode, place.size, 1, seconds, Math.floor(rest)].forEach((it, n) => {
       view.setBigInt64(8 * n, BigInt(it), true);
     });
@@ -286,7 +308,7 @@ class Host {
   }
 
   folder(at, length) {
-    const { place, error, free } = this.#walk(at, length);
+    const { place, error, free } = this.#find(at, length);
     if (place) return refused('EEXIST');
     if (error !== 'ENOENT' || !free) return refused(error);
     this.#tree.add(free, { mode: FOLDER, size: 0, modified: Date.now() });

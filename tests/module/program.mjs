@@ -90,6 +90,11 @@ tests['walks as the system does'] = async () => {
     await same(['list', '--json', set], files);
   }
   for (const out of ['', 'ct1.dcm', 'ct1.dcm/x', 'NONE/x', 'OUT']) await same(['index', '--json', out, 'ct1.dcm'], files);
+  // No system has a file and a folder of one name.
+  const mixed = [fileOf('S', 'ct1.dcm'), fileOf('S/DICOMDIR', 'OUT/DICOMDIR')];
+  for (const some of [mixed, [...mixed].reverse()]) {
+    assert.match((await ask(['list', '--json', 'S'], some)).lines.errors[0], /"cause":"Not a directory"/);
+  }
 };
 
 tests['reads damaged directories alike'] = async () => {

@@ -150,14 +150,14 @@ class Selenium(Engine):
 class Chromium(Selenium):
     name = "Chromium"
 
-    def __init__(self, width=1200, height=900):
+    def __init__(self, width=1200, height=900, words=()):
         from selenium import webdriver
         from selenium.webdriver.chrome.service import Service
         options = webdriver.ChromeOptions()
         options.binary_location = "/usr/bin/chromium"
         # As root in a container it has neither a sandbox nor much of /dev/shm.
         for word in ("--headless=new", "--no-sandbox", "--disable-gpu", "--disable-dev-shm-usage", "--no-first-run",
-                     f"--window-size={width},{height}"):
+                     f"--window-size={width},{height}", *words):
             options.add_argument(word)
         self.driver = webdriver.Chrome(service=Service("/usr/bin/chromedriver"), options=options)
         self.driver.set_script_timeout(LONGEST)

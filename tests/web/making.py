@@ -57,6 +57,7 @@ def make(engine, sources, id_="", uid=""):
         for line in wanted.objects(lines):
             if line["line"] == "SKIP":
                 same("a skipped file is named", True, line["fault"]["words"] in plan)
+                same("its class is named", True, line["fault"].get("class_name", "") in plan)
     return plan
 
 

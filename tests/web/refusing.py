@@ -183,17 +183,23 @@ def try_memory(engine):
     print(f"{engine.name}: a run without memory and one that fails end in words")
 
 
+# What a browser lacks, what Chromium is started with, and what is done before the page's scripts.
+LACKED = (("DecompressionStream", (), "delete window.DecompressionStream"),
+          ("WebAssembly SIMD", ("--js-flags=--no-enable-sse4-1",), ""))
+
+
 def try_lacking(_):
     """A browser that can't says so in a sentence."""
-    one = Chromium()
-    try:
-        one.before("delete window.DecompressionStream")
-        one.go(page.as_uri())
-        same("what an old browser says",
-             "This browser can’t run the page, as it lacks DecompressionStream: open it in a current Chrome, Edge, "
-             "Firefox or Safari.",
-             one.execute("const lines = document.body.innerText.split('\\n');"
-                         "return lines.filter((it) => it.startsWith('This browser'))[0]"))
-    finally:
-        one.close()
+    for lacked, words, script in LACKED:
+        one = Chromium(words=words)
+        try:
+            one.before(script)
+            one.go(page.as_uri())
+            same("what an old browser says",
+                 f"This browser can’t run the page, as it lacks {lacked}: open it in a current Chrome, Edge, Firefox "
+                 "or Safari.",
+                 one.execute("const lines = document.body.innerText.split('\\n');"
+                             "return lines.filter((it) => it.startsWith('This browser'))[0]"))
+        finally:
+            one.close()
     print("Chromium: a browser that can't says so")
