@@ -22,11 +22,11 @@ use Rattle.dd_file_set.proofs.ImagesMade.{named}
 use Rattle.dd_file_set.proofs.Unlinked.{bytes_by}
 use Rattle.dd_file_set.specs.Changed.{HasUnfit, HasUnfitFirst, HasUnfitPick, IfChanged, IsUnfit}
 use Rattle.dd_file_set.specs.Made.{HasAtOne}
-use Rattle.dd_file_set.specs.declared.refusal.ProgramFault.{ProgramFault}
-use Rattle.dd_file_set.specs.declared.refusal.ProgramFault.TheVariants.{Absent, BadName, BadStage, Changed, Create, Dir}
-use Rattle.dd_file_set.specs.declared.refusal.ProgramFault.TheVariants.{Folder, ListTooLarge, Memory, Own, Plan, SetId}
-use Rattle.dd_file_set.specs.declared.refusal.ProgramFault.TheVariants.{Strict, TooLong, Uid, Unread, Unsent}
-use Rattle.dd_file_set.specs.declared.refusal.Refusal.{Refusal}
+use Rattle.dd_faults.specs.declared.refusal.ProgramFault.{ProgramFault}
+use Rattle.dd_faults.specs.declared.refusal.ProgramFault.TheVariants.{Absent, BadName, BadStage, Changed, Create, Dir}
+use Rattle.dd_faults.specs.declared.refusal.ProgramFault.TheVariants.{Folder, ListTooLarge, Memory, Own, Plan, SetId}
+use Rattle.dd_faults.specs.declared.refusal.ProgramFault.TheVariants.{Strict, TooLong, Uid, Unread, Unsent}
+use Rattle.dd_faults.specs.declared.refusal.Refusal.{Refusal}
 
 -- ---- the same of more
 

@@ -1,11 +1,8 @@
 -- The evidence for a fault, from what calls have answered.
-use Rattle.std.proofs.Common.{◌≡◌, ℕ, false, List, Option, None, Some, Result, Ok, Err, inr, refl, subst, sym}
-use Rattle.std.specs.Prelude.{IfOk, IsOk, codes}
+use Rattle.std.proofs.Common.{◌≡◌, ℕ, false, List, Option, Err, inr, refl, subst, sym}
 use Rattle.dd_elem.specs.declared.device.Read.{Ghosts as ReadOf}
 use Rattle.dd_elem.specs.declared.device.Write.{Ghosts as WriteOf}
 use Rattle.dd_files.proofs.Reasons.{failed_reader, has_failed}
-use Rattle.dd_files.specs.Files.{Held, IsUnread}
-use Rattle.dd_files.specs.Paths.{IsPathIn}
 use Rattle.dd_files.specs.Reasons.{HasCounted, HasFailedReader}
 use Rattle.dd_filing.specs.Ahead.{IsSentAhead}
 use Rattle.dd_filing.specs.Filing.{IsRefusedCopy}
@@ -14,11 +11,11 @@ use Rattle.dd_filing.specs.declared.copying.FilingFault.{FilingFault}
 use Rattle.dd_filing.specs.declared.copying.FilingFault.TheVariants as copy
 use Rattle.dd_stream.specs.Sends.{StopsIn}
 use Rattle.dd_version.specs.declared.parts.Parts.{Parts}
-use Rattle.dd_file_set.specs.Reasons.{IsDueTo, StandsDirectory}
-use Rattle.dd_file_set.specs.Refusal.{IsMemory}
-use Rattle.dd_file_set.specs.declared.refusal.ProgramFault.TheVariants as fault
-use Rattle.dd_file_set.specs.declared.refusal.Refusal.{Refusal}
-use Rattle.dd_file_set.specs.declared.refusal.Subject.{Subject}
+use Rattle.dd_file_set.specs.Reasons.{IsDueTo}
+use Rattle.dd_faults.specs.Refusal.{IsMemory}
+use Rattle.dd_faults.specs.declared.refusal.ProgramFault.TheVariants as fault
+use Rattle.dd_faults.specs.declared.refusal.Refusal.{Refusal}
+use Rattle.dd_faults.specs.declared.refusal.Subject.{Subject}
 
 pub still_counted : (old new : ℕ) → new ≡ old → HasCounted old → HasCounted new
 still_counted old new is = subst HasCounted (sym is)
@@ -71,13 +68,3 @@ streamed_due reads writer old new copy.Unread limit given left before reader h =
 streamed_due reads writer old new copy.Changed limit given left before reader h = tt
 streamed_due reads writer old new copy.Unsent limit given left before reader h =
     stopped writer given h.1.0 old new h.1.1
-
--- ---- what is opened
-
--- a directory that was opened stands there
-pub stands_opened : {R E : Type 0} (reads : ReadOf R) (result : Result R E) (files : Option Held)
-    (folder path : List ℕ) → IsPathIn folder (codes "DICOMDIR") path → IsOk result
-    → IfOk result (IsUnread reads files path) → StandsDirectory folder files
-stands_opened reads (Ok reader) None folder path place opens is = tt
-stands_opened reads (Ok reader) (Some held) folder path place opens is = (path, (place, is.left.0))
-stands_opened reads (Err other) files folder path place opens is = absurd (cc)

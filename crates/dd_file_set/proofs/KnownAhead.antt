@@ -17,7 +17,7 @@ use Rattle.dd_filing.specs.declared.places.Ahead.TheVariants as known
 use Rattle.dd_stream.specs.Streams.{Ends}
 use Rattle.dd_stream.specs.declared.end.End.TheVariants.{Ended, Failed}
 use Rattle.dd_version.specs.declared.parts.Parts.{Parts}
-use Rattle.dd_file_set.specs.Made.{HasBytes}
+use Rattle.dd_files.specs.Keeping.{HasBytes}
 use Rattle.dd_file_set.specs.Made.{HasAtOne, MakesImage}
 use Rattle.dd_file_set.specs.ReadingAhead.{IsKnown, KnowsNext}
 

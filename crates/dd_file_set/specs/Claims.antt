@@ -2,10 +2,10 @@
 use Rattle.std.specs.Prelude.{◌≡◌, ◌⊎◌}
 use Rattle.dd_filing.specs.declared.agreeing.Filed.{Filed}
 use Rattle.dd_filing.specs.declared.agreeing.Filed.TheVariants.{AsPlanned, OtherVersion, Mislabelled}
-use Rattle.dd_file_set.specs.declared.refusal.ProgramFault.TheVariants.{Changed}
-use Rattle.dd_file_set.specs.declared.refusal.Refusal.{Refusal}
-use Rattle.dd_file_set.specs.declared.refusal.Subject.{Subject}
-use Rattle.dd_file_set.specs.Refusal.{IsMemory}
+use Rattle.dd_faults.specs.declared.refusal.ProgramFault.TheVariants.{Changed}
+use Rattle.dd_faults.specs.declared.refusal.Refusal.{Refusal}
+use Rattle.dd_faults.specs.declared.refusal.Subject.{Subject}
+use Rattle.dd_faults.specs.Refusal.{IsMemory}
 
 -- the file has changed, and what is named is such a subject
 pub record IsChanged (Names : Subject → Type 0) (refusal : Refusal) : Type 0 where

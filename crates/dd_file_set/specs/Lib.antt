@@ -4,5 +4,4 @@ pub mod Left
 pub mod Made
 pub mod ReadingAhead
 pub mod Reasons
-pub mod Refusal
 pub mod Standing

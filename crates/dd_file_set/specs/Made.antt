@@ -11,7 +11,7 @@ use Rattle.dd_dir.specs.Visits.{Realises}
 use Rattle.dd_elem.specs.FileId.{AreRanks, Ranks, text_of}
 use Rattle.dd_elem.specs.Ordered.{bytes_cmp}
 use Rattle.dd_files.specs.Files.{Held, linked, published, started, stored}
-use Rattle.dd_files.specs.Keeping.{IsFree}
+use Rattle.dd_files.specs.Keeping.{HasBytes, IsFree}
 use Rattle.dd_files.specs.Paths.{IsPathIn, id_path}
 use Rattle.dd_filing.specs.declared.agreeing.Filed.TheVariants.{AsPlanned}
 use Rattle.dd_filing.specs.Filing.{IsFileAs}
@@ -48,10 +48,6 @@ pub record StartsImage (folder : List ℕ) (file : Ranks) (old new : Option Held
   pub place : IsPlace folder file path
   pub free : IsFree path old
   pub started : new ≡ option_map (started path) old
-
--- the file at the path has these bytes, where the files say what they hold
-abbrev pub HasBytes : List ℕ → List ℕ → Option Held → Type 0
-HasBytes path bytes files = IfSome files (λ held. held.bytes_at path ≡ Some bytes)
 
 -- a file at one of these paths has these bytes, where the files say what they hold
 pub record HasAtOne (From : List ℕ → Type 0) (bytes : List ℕ) (files : Option Held) : Type 0 where

@@ -1,14 +1,12 @@
 -- Why making a file-set is refused.
-use Rattle.std.specs.Prelude.{◌⊎◌, ℕ, List, Option, IfSome, IsSome, codes}
+use Rattle.std.specs.Prelude.{◌⊎◌, ℕ}
 use Rattle.dd_elem.specs.declared.device.Read.{Ghosts as ReadOf}
-use Rattle.dd_files.specs.Files.{Held}
-use Rattle.dd_files.specs.Paths.{IsPathIn}
 use Rattle.dd_files.specs.Reasons.{HasCounted, HasFailedReader}
 use Rattle.dd_files.specs.declared.files.LinkFault.{LinkFault}
 use Rattle.dd_files.specs.declared.files.LinkFault.TheVariants as link
-use Rattle.dd_file_set.specs.declared.refusal.ProgramFault.{ProgramFault}
-use Rattle.dd_file_set.specs.declared.refusal.ProgramFault.TheVariants.{Absent, Changed, Create, Folder, Memory}
-use Rattle.dd_file_set.specs.declared.refusal.ProgramFault.TheVariants.{Unread, Unsent}
+use Rattle.dd_faults.specs.declared.refusal.ProgramFault.{ProgramFault}
+use Rattle.dd_faults.specs.declared.refusal.ProgramFault.TheVariants.{Absent, Changed, Create, Folder, Memory}
+use Rattle.dd_faults.specs.declared.refusal.ProgramFault.TheVariants.{Unread, Unsent}
 
 -- The evidence for a fault in making a file-set: the files have refused a call, a read of one of their readers has
 -- failed, or a write to them.
@@ -28,8 +26,3 @@ IsLinkDueTo refusals link.Absent = HasCounted refusals
 IsLinkDueTo refusals link.Changed = Unit {0}
 IsLinkDueTo refusals link.Taken = HasCounted refusals
 IsLinkDueTo refusals link.Refused = Unit {0}
-
--- a directory stands in the folder, where files say what they hold
-abbrev pub StandsDirectory : List ℕ → Option Held → Type 0
-StandsDirectory folder files = IfSome files (λ held. (path : List ℕ)
-    × (IsPathIn folder (codes "DICOMDIR") path × IsSome (held.bytes_at path)))

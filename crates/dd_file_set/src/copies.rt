@@ -13,15 +13,15 @@ ghost use Rattle.dd_file_set.specs.Made.{MakesImages, StartsImage};
 ghost use Rattle.dd_file_set.specs.Standing.{picked_rows};
 ghost use Rattle.dd_file_set.specs.ReadingAhead.{IsKnown, KnowsNext};
 ghost use Rattle.dd_file_set.specs.Reasons.{IsDueTo};
-ghost use Rattle.dd_file_set.specs.Refusal.{IsAmong, IsMemory, IsOfWork};
+ghost use Rattle.dd_faults.specs.Refusal.{IsAmong, IsMemory, IsOfWork};
 
 use crate::file_set::FileSet;
 use crate::images::{Image, make_folder, open, store_batch};
 use crate::links::link_image;
 use crate::origins::Origins;
 use crate::reading_ahead::read_ahead;
-use crate::refusal::{ProgramFault, Refusal, Subject};
 use dd_elem::FileId;
+use dd_faults::{ProgramFault, Refusal, Subject};
 use dd_files::{Files, Progress, SOURCE_LIMIT, Step, file_path};
 use dd_filing::{Ahead, FileAhead, Filed, FilesAhead, FilingFault, file_image, one_filed};
 use dd_records::PlanRecord;

@@ -1,5 +1,5 @@
 ghost use Rattle.std.proofs.Props.{props};
-ghost use Rattle.std.specs.Prelude.{◌≡◌, ◌⊎◌, ◌++◌, ◌<◌, ℕ, All, List, IfErr, IsErr, IsOk, option_map};
+ghost use Rattle.std.specs.Prelude.{◌≡◌, ◌++◌, ◌<◌, ℕ, All, List, IfErr, IsErr, IsOk, option_map};
 ghost use Rattle.dd_dir.specs.Directories.{directory_of};
 ghost use Rattle.dd_elem.specs.Device.{counted, HasFailed};
 ghost use Rattle.dd_files.specs.Files.{ended, grown, published, started, stored};
@@ -7,15 +7,14 @@ ghost use Rattle.dd_files.specs.Keeping.{Adds, IfSaid, IsFree};
 ghost use Rattle.dd_file_set.specs.Changed.{HasUnfitPick, IfChanged};
 ghost use Rattle.dd_file_set.specs.Left.{IsPartWritten, MakesDirectoryLast};
 ghost use Rattle.dd_file_set.specs.Made.{MakesFileSet, RealisesPlan, SaysPlan};
-ghost use Rattle.dd_file_set.specs.Reasons.{IsDueTo, StandsDirectory};
-ghost use Rattle.dd_files.specs.Reasons.{HasCounted};
-ghost use Rattle.dd_file_set.specs.Refusal.{IsBadLine, IsOfWork};
+ghost use Rattle.dd_file_set.specs.Reasons.{IsDueTo};
+ghost use Rattle.dd_faults.specs.Refusal.{IsBadLine, IsOfWork};
 ghost use Rattle.dd_file_set.specs.Standing.{picked_rows};
 
 use crate::copies::copy_images;
 use crate::origins::Origins;
-use crate::refusal::{ProgramFault, Refusal, Subject};
 use dd_dir::write_directory;
+use dd_faults::{ProgramFault, Refusal, Subject};
 use dd_files::{DIRECTORY, Files, Progress, path_in};
 use dd_layout::Plan;
 use std::alloc::Global;
@@ -32,21 +31,6 @@ pub struct FileSet<'a, O: Origins> {
     /// The file of each image, in the order of the plan.
     pub picks: &'a [O::Pick],
     ghost within: { All (λ pick. O.number pick < O.count origins.now) picks.now } by { Prim.hlevel props },
-}
-
-/// Refuses a folder whose directory can be opened, also where the system shows it under another spelling of its name.
-pub fn refuse_taken<F: Files>(alloc: Global, folder: &str, files: &mut F) -> Result<(), Refusal>
-    ensures refusal { (paths : ℕ) → IfErr result (IsOfWork paths) }
-    ensures kept { F.held files.new ≡ F.held files.old }
-    ensures absent { IsOk result → HasCounted (F.refusals files.new) }
-    ensures due { IfErr result (λ refusal. (refusal.fault ≡ ProgramFault.Memory)
-        ⊎ ((refusal.fault ≡ ProgramFault.Create) × StandsDirectory folder.now (F.held files.old))) }
-{
-    let path = path_in(alloc, folder, DIRECTORY)?;
-    if files.source(path.as_str()).is_ok() || files.member(folder, path.as_str()).is_ok() {
-        return Err(Refusal::of(Subject::Directory, ProgramFault::Create));
-    }
-    Ok(())
 }
 
 /// Makes each image of the plan in the folder, from the file that is picked, and then writes the directory. All is

@@ -7,12 +7,11 @@ ghost use Rattle.dd_file_set.specs.Changed.{IfChanged};
 ghost use Rattle.dd_file_set.specs.Made.{HasFolderOf, IsPlace};
 ghost use Rattle.dd_file_set.specs.ReadingAhead.{OpensOne};
 ghost use Rattle.dd_file_set.specs.Reasons.{IsDueTo};
-ghost use Rattle.dd_file_set.specs.Refusal.{IsOfWork};
+ghost use Rattle.dd_faults.specs.Refusal.{IsOfWork};
 
-use crate::image_path::FOLDER_LENGTH;
 use crate::origins::{Lookup, Origins};
-use crate::refusal::{ProgramFault, Refusal, Subject};
 use dd_elem::FileId;
+use dd_faults::{FOLDER_LENGTH, ProgramFault, Refusal, Subject};
 use dd_files::{Files, NotThere, file_path};
 use dd_filing::Wanted;
 use dd_version::Version;

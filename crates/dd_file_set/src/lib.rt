@@ -5,14 +5,10 @@
 
 mod copies;
 mod file_set;
-mod image_path;
 mod images;
 mod links;
 mod origins;
 mod reading_ahead;
-mod refusal;
 
-pub use file_set::{FileSet, refuse_taken, write_file_set};
-pub use image_path::{IdPath, ImageFolder, ImagePath, ImagePathText, PathText};
+pub use file_set::{FileSet, write_file_set};
 pub use origins::{Lookup, Origins};
-pub use refusal::{ProgramFault, Refusal, Subject};

@@ -7,12 +7,12 @@ ghost use Rattle.dd_files.specs.Reasons.{HasCounted};
 ghost use Rattle.dd_file_set.specs.Changed.{HasUnfit, IfChanged};
 ghost use Rattle.dd_file_set.specs.Made.{HasFolderOf, IsAsStored, IsImagePath, LinksImage};
 ghost use Rattle.dd_file_set.specs.Reasons.{IsDueTo, IsLinkDueTo};
-ghost use Rattle.dd_file_set.specs.Refusal.{IsAmong, IsOfWork};
+ghost use Rattle.dd_faults.specs.Refusal.{IsAmong, IsOfWork};
 
 use crate::images::{Image, make_folder, open, store_batch};
 use crate::origins::{Lookup, Origins};
-use crate::refusal::{ProgramFault, Refusal, Subject};
 use dd_elem::FileId;
+use dd_faults::{ProgramFault, Refusal, Subject};
 use dd_files::{Files, LinkFault, Progress, file_path};
 use std::alloc::Global;
 

@@ -1,10 +1,10 @@
 //! The files that images are made of.
 ghost use Rattle.std.specs.Prelude.{◌≡◌, ◌<◌, ℕ, List, IfOk, Option, option_map, string_bytes, true};
 ghost use Rattle.dd_file_set.specs.Made.{IsAsStored};
-ghost use Rattle.dd_file_set.specs.Refusal.{IsAmong};
+ghost use Rattle.dd_faults.specs.Refusal.{IsAmong};
 
-use crate::refusal::Subject;
 use dd_elem::Memory;
+use dd_faults::Subject;
 use dd_version::Version;
 use std::alloc::Global;
 
@@ -22,7 +22,7 @@ pub enum Lookup<'a> {
 /// The files that images are made of. A pick is one of them where its number is below their count.
 pub trait Origins {
     ghost use Rattle.dd_version.specs.declared.parts.Parts.{Parts};
-    ghost use Rattle.dd_file_set.specs.declared.refusal.Subject.{Subject};
+    ghost use Rattle.dd_faults.specs.declared.refusal.Subject.{Subject};
 
     /// Which file an image is made of.
     type Pick: Copy;

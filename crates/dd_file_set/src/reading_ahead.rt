@@ -6,7 +6,7 @@ ghost use Rattle.dd_file_set.specs.ReadingAhead.{KnowsNext, ReadsNext};
 
 use crate::images::open;
 use crate::origins::Origins;
-use crate::refusal::ProgramFault;
+use dd_faults::ProgramFault;
 use dd_files::Files;
 use dd_filing::{AHEAD_LIMIT, FilesAhead};
 use std::alloc::Global;

@@ -5,6 +5,7 @@ ghost use Rattle.dd_json.specs.Values.{json_line, value_of};
 ghost use Rattle.dd_lines.specs.Text.{FailsInText, TakesText};
 ghost use Rattle.dd_messages.specs.FaultLines.{broken_json, refusal_json};
 
+use crate::class_names::class_name;
 use crate::shown_hints::ShownHints;
 use dd_elem::Write;
 use dd_json::{Json, print_json};
@@ -52,10 +53,21 @@ impl<'a> FaultWords<'a> {
         ]
     }
 
+    /// Gives the name of the class that is not taken, where the fault is of one that has a name.
+    pub(crate) fn class_name(&self) -> Option<&'static str> {
+        class_name(self.words.strip_prefix("32 NotImage ")?)
+    }
+
     /// Gives its members where it has no cause.
     pub(crate) fn members(&self) -> [Member<'a>; 3] {
         let [number, name] = self.named();
         [number, name, ("words", Json::Text(self.words))]
+    }
+
+    /// Gives its members with the name of a class.
+    pub(crate) fn members_of_class(&self, class: &'a str) -> [Member<'a>; 4] {
+        let [number, name, words] = self.members();
+        [number, name, words, ("class_name", Json::Text(class))]
     }
 
     /// Gives its members with those of its cause.

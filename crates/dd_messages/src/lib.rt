@@ -3,6 +3,7 @@
 //! What each says stands at its function.
 #![tactic(auto)]
 
+mod class_names;
 mod counts;
 mod fault_json;
 mod fault_line;
@@ -11,6 +12,7 @@ mod note_lines;
 mod shell_path;
 mod shown_hints;
 
+pub use class_names::class_name;
 pub use counts::{Ending, print_counts, print_images};
 pub use fault_json::print_broken_json;
 pub use fault_line::{FaultLine, RefusalForm, print_fault, print_general, print_inside};

@@ -23,6 +23,29 @@ pub(crate) fn print_skip_json<O: Write>(path: &str, words: &str, out: &mut O) ->
     ensures worked { IsOk result → O.failures out.new ≡ O.failures out.old }
     ensures failed { IsErr result → HasFailed (O.failures out.old) (O.failures out.new) }
 {
+    match FaultWords::of(words).class_name() {
+        Some(class) => print_skip_of_class(path, words, class, out),
+        None => print_skip_of(path, words, out),
+    }
+}
+
+/// Prints the same of a class with a name.
+fn print_skip_of_class<O: Write>(path: &str, words: &str, class: &str, out: &mut O) -> fmt::Result
+    ensures told { OnOk result ((fault : Data)
+        × TakesText O.Write out.old out.new (json_line (skip_json path.now fault))) }
+    ensures worked { IsOk result → O.failures out.new ≡ O.failures out.old }
+    ensures failed { IsErr result → HasFailed (O.failures out.old) (O.failures out.new) }
+{
+    let fault = FaultWords::of(words);
+    print_skip_for(path, Json::Object(&fault.members_of_class(class)), out)
+}
+
+fn print_skip_of<O: Write>(path: &str, words: &str, out: &mut O) -> fmt::Result
+    ensures told { OnOk result ((fault : Data)
+        × TakesText O.Write out.old out.new (json_line (skip_json path.now fault))) }
+    ensures worked { IsOk result → O.failures out.new ≡ O.failures out.old }
+    ensures failed { IsErr result → HasFailed (O.failures out.old) (O.failures out.new) }
+{
     let fault = FaultWords::of(words);
     match fault.cause() {
         None => print_skip_for(path, Json::Object(&fault.members()), out),

@@ -2,8 +2,8 @@
 use Rattle.std.specs.Prelude.{◌≡◌, ◌⊎◌, ℕ, Bool, true, false, List, [], codes, Option, None, Some, slice_index_or}
 use Rattle.std.specs.Fmt.InlineText.{inline_text}
 use Rattle.dd_elem.specs.declared.device.Write.{Ghosts as WriteOf}
-use Rattle.dd_file_set.specs.declared.refusal.Subject.{Subject}
-use Rattle.dd_file_set.specs.declared.refusal.Subject.TheVariants as subject
+use Rattle.dd_faults.specs.declared.refusal.Subject.{Subject}
+use Rattle.dd_faults.specs.declared.refusal.Subject.TheVariants as subject
 use Rattle.dd_files.specs.Paths.{IsPathIn}
 use Rattle.dd_json.specs.declared.value.Style.{Style}
 use Rattle.dd_line.specs.Requests.{is_json}

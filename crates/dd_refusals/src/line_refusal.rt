@@ -5,7 +5,7 @@ ghost use Rattle.dd_refusals.specs.Mistakes.{IsMistake};
 use crate::masked_words::{have_control, mask_words};
 use crate::refusal::{Paths, tell};
 use dd_elem::Write;
-use dd_file_set::Refusal;
+use dd_faults::Refusal;
 use dd_json::Style;
 use dd_line::{LineFault, read_words};
 use dd_lines::Text;

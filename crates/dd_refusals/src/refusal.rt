@@ -1,11 +1,11 @@
 ghost use Rattle.std.specs.Prelude.{◌≡◌, ◌↔◌, ◌⊎◌, []};
-ghost use Rattle.dd_file_set.specs.Refusal.{IsBadLine};
+ghost use Rattle.dd_faults.specs.Refusal.{IsBadLine};
 ghost use Rattle.dd_line.specs.Line.{words_of};
 ghost use Rattle.dd_messages.specs.FaultLines.{style_of};
 ghost use Rattle.dd_refusals.specs.Faults.{TellsOf, path_at};
 
 use dd_elem::Write;
-use dd_file_set::{ImageFolder, ImagePath, ImagePathText, ProgramFault, Refusal, Subject};
+use dd_faults::{ImageFolder, ImagePath, ImagePathText, ProgramFault, Refusal, Subject};
 use dd_files::DIRECTORY;
 use dd_messages::{FaultLine, RefusalForm, print_fault, print_general, print_inside};
 use std::fmt::InlineText;
@@ -102,7 +102,7 @@ fn print_of<W: Write>(subject: &Subject, paths: Paths<'_>, line: FaultLine<'_>, 
     }
 }
 
-/// Gives an empty path where there is none of this number.
+/// Gives the path of this number, or an empty one past the last.
 fn path_at(paths: &[String], at: usize) -> &str
     ensures { result.now ≡ path_at (words_of paths.now) at }
 {

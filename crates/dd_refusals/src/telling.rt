@@ -1,5 +1,5 @@
 ghost use Rattle.std.specs.Prelude.{◌≡◌, ◌↔◌, ◌⊎◌, false, true};
-ghost use Rattle.dd_file_set.specs.Refusal.{IsBadLine};
+ghost use Rattle.dd_faults.specs.Refusal.{IsBadLine};
 ghost use Rattle.dd_line.specs.Line.{words_of};
 ghost use Rattle.dd_line.specs.Requests.{is_json};
 ghost use Rattle.dd_refusals.specs.Faults.{HasNoHints, TellsRefusal, is_quiet, is_verbose};
@@ -8,7 +8,7 @@ use crate::hints::{hints_of, print_hints};
 use crate::line_flags::{is_quiet, is_verbose, style_of};
 use crate::refusal::{Paths, tell};
 use dd_elem::Write;
-use dd_file_set::Refusal;
+use dd_faults::Refusal;
 use dd_files::Hints;
 use dd_json::Style;
 use dd_line::Request;
@@ -39,7 +39,7 @@ pub fn tell_with_hints<F: Hints, E: Write>(
         paths.entry.list.now refusal.now.subject err.old err.new }
 {
     let hints = if shows_hints(request, files) {
-        Some(hints_of(refusal, paths, files))
+        Some(hints_of(refusal, request, paths, files))
     } else {
         None
     };

@@ -18,24 +18,16 @@ use Rattle.dd_report.specs.FoundRecords.{FoundRow, found_json, found_line, found
 use Rattle.dd_report.specs.FoundRecords.{found_rows, path_data}
 use Rattle.dd_report.specs.Listing.{elements_in, end_lines, record_members, set_line}
 use Rattle.dd_report.specs.MemberTexts.{back_text, front_text, member_text, more_text}
-use Rattle.dd_report.proofs.MemberLines.{parts_join}
+use Rattle.dd_report.proofs.MemberLines.{front_more, parts_join}
 use Rattle.dd_report.proofs.RecordLines.{set_same}
 
 -- ---- an object
 
-more_one : (members : List (List ℕ × Data)) (name : List ℕ) (value : Data)
-    → more_text (members_in members) ++ member_text name value
-    ≡ more_text (members_in (members ++ (name, value) ∷ []))
-more_one [] name value = sym (append-nil (member_text name value))
-more_one (named ∷ members) name value =
-    append_assoc (member_text named.0 named.1) (more_text (members_in members)) (member_text name value)
-    ∙ ap (λ (xs : List ℕ). member_text named.0 named.1 ++ xs) (more_one members name value)
-
-front_more : (members : List (List ℕ × Data)) (name : List ℕ) (value : Data)
+front_one : (members : List (List ℕ × Data)) (name : List ℕ) (value : Data)
     → front_text members ++ member_text name value ≡ front_text (members ++ (name, value) ∷ [])
-front_more members name value =
-    append_assoc (codes "{\"line\":\"RECORD\"") (more_text (members_in members)) (member_text name value)
-    ∙ ap (λ (xs : List ℕ). codes "{\"line\":\"RECORD\"" ++ xs) (more_one members name value)
+front_one members name value =
+    ap (λ (xs : List ℕ). front_text members ++ xs) (sym (append-nil (member_text name value)))
+    ∙ front_more members ((name, value) ∷ [])
 
 abbrev front_of : FoundRow → List ℕ
 front_of found = front_text (record_members found.row.level found.row.node)
@@ -50,7 +42,7 @@ found_joins : (found : FoundRow) → front_of found ++ (path_of found ++ back_of
 found_joins found =
     let members = record_members found.row.level found.row.node in
     sym (append_assoc (front_of found) (path_of found) (back_of found))
-    ∙ ap (λ (xs : List ℕ). xs ++ back_of found) (front_more members (codes "path") (path_data found.path))
+    ∙ ap (λ (xs : List ℕ). xs ++ back_of found) (front_one members (codes "path") (path_data found.path))
     ∙ parts_join (members ++ (codes "path", path_data found.path) ∷ []) (elements_in Long found.row.node.set)
 
 -- the writer failed in the members of each form, or in the path

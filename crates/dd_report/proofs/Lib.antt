@@ -1,6 +1,5 @@
 mod Agreeing
 mod Batching
-pub mod FirstPlaces
 mod FaultLines
 mod FoundLines
 mod FoundRows

@@ -1,6 +1,6 @@
 -- The object of a record, which is written in parts.
 use Rattle.std.proofs.Common.{◌≡◌, ◌∙◌, ◌==◌, ℕ, List, [], ◌∷◌, ◌++◌, length, Result, refl, sym, ap, ap₂, subst}
-use Rattle.std.proofs.Common.{append_assoc, arith, eqb-true, false, true}
+use Rattle.std.proofs.Common.{append_assoc, append-nil, arith, eqb-true, false, true}
 use Rattle.std.specs.Prelude.{IsErr, codes}
 use Rattle.std.specs.Borrow.{Bor}
 use Rattle.std.specs.List.{flat_map}
@@ -14,7 +14,8 @@ use Rattle.dd_walk.specs.ForestViews.{tree_view}
 use Rattle.dd_walk.specs.Saying.{key_of}
 use Rattle.dd_report.specs.declared.known.Form.{Form}
 use Rattle.dd_report.specs.Finding.{file_in}
-use Rattle.dd_report.specs.Listing.{elements_in, file_members, label_tag, members_with, record_json, record_members}
+use Rattle.dd_report.specs.Listing.{elements_in, file_members, label_tag, members_with, named_members, record_json}
+use Rattle.dd_report.specs.Listing.{record_members, uid_members, uid_tag}
 use Rattle.dd_report.proofs.RecordLines.{kind_same, set_same}
 use Rattle.dd_lines.specs.Telling.{Fails, GoesOn, Tells, Way}
 use Rattle.dd_json.specs.Values.{json_line, members_in, members_view, object_of, printed, value_of}
@@ -165,7 +166,7 @@ some_file (byte ∷ file) some = refl
 members_are : (level : ℕ) (t : Tree) (key : List ℕ) (file : List (List ℕ × Data))
     → key ≡ key_of (label_tag (out-Tree t).kind.now) (tree_view t).node.set
     → file ≡ file_members (file_in (tree_view t).node)
-    → members_with level (tree_view t).node file key ≡ record_members level (tree_view t).node
+    → members_with level (tree_view t).node file key ≡ named_members level (tree_view t).node
 members_are level t key file key_is file_is =
     let node = (tree_view t).node in
     ap₂ (members_with level node) file_is
@@ -174,7 +175,7 @@ members_are level t key file key_is file_is =
 pub without_file : {T E : Type 0} (r : Result T E) (level : ℕ) (t : Tree) (file key : List ℕ) (a b : Way)
     → file ≡ file_in (tree_view t).node → key ≡ key_of (label_tag (out-Tree t).kind.now) (tree_view t).node.set
     → (length file == 0) ≡ true → Tells r (front_text (members_with level (tree_view t).node [] key)) a b
-    → Tells r (front_text (record_members level (tree_view t).node)) a b
+    → Tells r (front_text (named_members level (tree_view t).node)) a b
 without_file r level t file key a b file_is key_is none tells =
     subst (λ (members : List (List ℕ × Data)). Tells r (front_text members) a b)
     (members_are level t key [] key_is (no_file file none ∙ ap file_members file_is)) tells
@@ -183,8 +184,64 @@ pub with_file : {T E : Type 0} (r : Result T E) (level : ℕ) (t : Tree) (file k
     → file ≡ file_in (tree_view t).node → key ≡ key_of (label_tag (out-Tree t).kind.now) (tree_view t).node.set
     → (length file == 0) ≡ false
     → Tells r (front_text (members_with level (tree_view t).node ((codes "file", printed file) ∷ []) key)) a b
-    → Tells r (front_text (record_members level (tree_view t).node)) a b
+    → Tells r (front_text (named_members level (tree_view t).node)) a b
 with_file r level t file key a b file_is key_is some tells =
     subst (λ (members : List (List ℕ × Data)). Tells r (front_text members) a b)
     (members_are level t key ((codes "file", printed file) ∷ []) key_is
     (some_file file some ∙ ap file_members file_is)) tells
+
+-- ---- its UID
+
+-- members after others
+more_join : (members more : List (List ℕ × Data))
+    → more_text (members_in members) ++ more_text (members_in more) ≡ more_text (members_in (members ++ more))
+more_join [] more = refl
+more_join (named ∷ members) more =
+    append_assoc (member_text named.0 named.1) (more_text (members_in members)) (more_text (members_in more))
+    ∙ ap (λ (xs : List ℕ). member_text named.0 named.1 ++ xs) (more_join members more)
+
+pub front_more : (members more : List (List ℕ × Data))
+    → front_text members ++ more_text (members_in more) ≡ front_text (members ++ more)
+front_more members more =
+    append_assoc (codes "{\"line\":\"RECORD\"") (more_text (members_in members)) (more_text (members_in more))
+    ∙ ap (λ (xs : List ℕ). codes "{\"line\":\"RECORD\"" ++ xs) (more_join members more)
+
+abbrev uid_text : List ℕ → List ℕ
+uid_text uid = more_text (members_in (uid_members uid))
+
+-- it is a member where it has bytes
+pub no_uid : (uid : List ℕ) → (length uid == 0) ≡ true → uid_text uid ≡ []
+no_uid [] none = refl
+no_uid (byte ∷ uid) none = absurd (omega (arith, eqb-true (length (byte ∷ uid)) 0 none))
+
+some_uid : (uid : List ℕ) → (length uid == 0) ≡ false → member_text (codes "uid") (printed uid) ≡ uid_text uid
+some_uid [] some = absurd (cc)
+some_uid (byte ∷ uid) some = sym (append-nil (member_text (codes "uid") (printed (byte ∷ uid))))
+
+pub uid_told : {T E : Type 0} (r : Result T E) (uid : List ℕ) (value : Data) (a b : Way) → value ≡ printed uid
+    → (length uid == 0) ≡ false → Tells r (member_text (codes "uid") value) a b → Tells r (uid_text uid) a b
+uid_told r uid value a b is some tells =
+    subst (λ (text : List ℕ). Tells r text a b) (ap (member_text (codes "uid")) is ∙ some_uid uid some) tells
+
+-- the writer failed in the members before it
+pub named_fail : {T E : Type 0} (r : Result T E) (level : ℕ) (t : Tree) (a b : Way) → IsErr r
+    → Fails (front_text (named_members level (tree_view t).node)) a b
+    → Tells r (front_text (record_members level (tree_view t).node)) a b
+named_fail r level t a b err failed =
+    let node = (tree_view t).node in
+    let uid = key_of (uid_tag node.kind) node.set in
+    subst (λ (text : List ℕ). Tells r text a b) (front_more (named_members level node) (uid_members uid))
+    (first_fails r (front_text (named_members level node)) (uid_text uid) a b err failed)
+
+-- they went, and then the UID
+pub uid_tells : {T E : Type 0} (r : Result T E) (level : ℕ) (t : Tree) (uid : List ℕ) (a b c : Way)
+    → uid ≡ key_of (uid_tag (out-Tree t).kind.now) (tree_view t).node.set
+    → GoesOn (front_text (named_members level (tree_view t).node)) a b → Tells r (uid_text uid) b c
+    → Tells r (front_text (record_members level (tree_view t).node)) a c
+uid_tells r level t uid a b c is named tells =
+    let node = (tree_view t).node in
+    let same = is ∙ ap (λ (kind : List ℕ). key_of (uid_tag kind) node.set) (sym (kind_same t)) in
+    subst (λ (text : List ℕ). Tells r text a c)
+    (front_more (named_members level node) (uid_members (key_of (uid_tag node.kind) node.set)))
+    (tells_then r (front_text (named_members level node)) (uid_text (key_of (uid_tag node.kind) node.set)) a b c named
+    (subst (λ (x : List ℕ). Tells r (uid_text x) b c) same tells))

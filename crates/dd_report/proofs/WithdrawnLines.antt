@@ -13,7 +13,7 @@ use Rattle.dd_walk.specs.WithdrawnPieces.{pieces_in, pieces_of}
 use Rattle.dd_report.specs.Listing.{withdrawn_line, withdrawn_lines}
 use Rattle.dd_json.specs.declared.value.Style.{Style}
 use Rattle.dd_lines.specs.Telling.{Fails, GoesOn, Tells, Way}
-use Rattle.dd_report.proofs.FirstPlaces.{first_within, none_within}
+use Rattle.dd_files.proofs.FirstPlaces.{first_within, none_within}
 use Rattle.dd_lines.proofs.GoingOn.{fails_next, fails_front, goes_none, goes_then, tells_err}
 
 -- ---- the first piece

@@ -38,6 +38,12 @@ label_tag kind =
     else (if bytes_eq kind (kind_of Study) then tag 0x0020 0x000d
     else (if bytes_eq kind (kind_of Series) then tag 0x0020 0x000e else tag 0x0004 0x1500))
 
+-- the element with the UID of what a record stands for: of its study, of its series, or of the instance in its file
+abbrev pub uid_tag : List ℕ → Tag
+uid_tag kind =
+    if bytes_eq kind (kind_of Study) then tag 0x0020 0x000d
+    else (if bytes_eq kind (kind_of Series) then tag 0x0020 0x000e else tag 0x0004 0x1511)
+
 -- a value, and `-` where there is no value, or one of no bytes
 abbrev pub or_dash : Option (List ℕ) → List ℕ
 or_dash None = codes "-"
@@ -55,13 +61,13 @@ abbrev pub spaced : List ℕ → List ℕ → List ℕ → List ℕ → List (Li
 spaced first second third mark = first ∷ codes " " ∷ second ∷ codes " " ∷ third ∷ mark ∷ []
 
 -- The elements by which a person recognises a record of this type. Of a patient it is the name; of a study the date,
--- the time and the description; of a series the modality and the number; of an image the number.
+-- the time and the description; of a series the modality and the number; of an image the number and the instance.
 abbrev pub known_tags : List ℕ → List Tag
 known_tags kind =
     if bytes_eq kind (kind_of Patient) then tag 0x0010 0x0010 ∷ []
     else (if bytes_eq kind (kind_of Study) then tag 0x0008 0x0020 ∷ tag 0x0008 0x0030 ∷ tag 0x0008 0x1030 ∷ []
     else (if bytes_eq kind (kind_of Series) then tag 0x0008 0x0060 ∷ tag 0x0020 0x0011 ∷ []
-    else (if bytes_eq kind (kind_of Image) then tag 0x0020 0x0013 ∷ [] else [])))
+    else (if bytes_eq kind (kind_of Image) then tag 0x0020 0x0013 ∷ tag 0x0004 0x1511 ∷ [] else [])))
 
 -- the elements of a record of this type whose values a listing of this form shows
 abbrev pub tags_in : Form → List ℕ → List Tag
@@ -78,18 +84,24 @@ abbrev pub record_parts : Form → Node → List (List ℕ)
 record_parts form node = spaced (decimal node.at) node.kind (label_of node) (flag_of node)
     ++ flat_map (value_parts node.set) (tags_in form node.kind)
 
--- the same as members of a JSON object; the File ID is one only where the record has one
+-- the same as members of a JSON object; the File ID and the UID are members only where the record has one
 abbrev pub file_members : List ℕ → List (List ℕ × Data)
 file_members file = if is_empty file then [] else (codes "file", printed file) ∷ []
+
+abbrev pub uid_members : List ℕ → List (List ℕ × Data)
+uid_members uid = if is_empty uid then [] else (codes "uid", printed uid) ∷ []
 
 abbrev pub members_with : ℕ → Node → List (List ℕ × Data) → List ℕ → List (List ℕ × Data)
 members_with level node file key =
     (codes "offset", count node.at) ∷ (codes "level", count level) ∷ (codes "type", printed node.kind)
     ∷ (codes "in_use", boolean node.in_use) ∷ (file ++ (codes "key", printed key) ∷ [])
 
-abbrev pub record_members : ℕ → Node → List (List ℕ × Data)
-record_members level node =
+abbrev pub named_members : ℕ → Node → List (List ℕ × Data)
+named_members level node =
     members_with level node (file_members (file_in node)) (key_of (label_tag node.kind) node.set)
+
+abbrev pub record_members : ℕ → Node → List (List ℕ × Data)
+record_members level node = named_members level node ++ uid_members (key_of (uid_tag node.kind) node.set)
 
 -- a long listing adds the data set in the DICOM JSON model (PS3.18 section F.2)
 abbrev pub elements_in : Form → Elements → List (List ℕ × Data)

@@ -27,7 +27,13 @@ const OF_STUDY: [Tag; 3] = [tags::STUDY_DATE, tags::STUDY_TIME, tags::STUDY_DESC
 
 const OF_SERIES: [Tag; 2] = [tags::MODALITY, tags::SERIES_NUMBER];
 
-const OF_IMAGE: [Tag; 1] = [tags::INSTANCE_NUMBER];
+/// Referenced SOP Instance UID in File.
+const INSTANCE_IN_FILE: Tag = Tag {
+    group: 0x0004,
+    element: 0x1511,
+};
+
+const OF_IMAGE: [Tag; 2] = [tags::INSTANCE_NUMBER, INSTANCE_IN_FILE];
 
 /// Adds the values of these elements, each after ` | `.
 pub(crate) fn add_values<W: Write>(

@@ -8,7 +8,8 @@ ghost use Rattle.dd_walk.specs.ForestViews.{tree_view, trees_view, walk_view};
 ghost use Rattle.dd_walk.specs.WithdrawnPieces.{pieces_in, pieces_of};
 ghost use Rattle.dd_report.specs.Listing.{branch_lines, end_lines, flag_of, label_of, label_tag, lines_in, lines_of};
 ghost use Rattle.dd_report.specs.Listing.{listing, long_listing, or_dash, record_count, record_line, record_parts};
-ghost use Rattle.dd_report.specs.Listing.{set_line, set_parts, spaced, totals_line, withdrawn_line, withdrawn_lines};
+ghost use Rattle.dd_report.specs.Listing.{set_line, set_parts, spaced, totals_line, uid_tag, withdrawn_line};
+ghost use Rattle.dd_report.specs.Listing.{withdrawn_lines};
 ghost use Rattle.dd_lines.specs.Telling.{Tells, shown, shown_line, way_of};
 ghost use Rattle.dd_json.specs.declared.value.Style.TheVariants.{Text};
 ghost use Rattle.dd_lines.specs.Text.{FailsInText, TakesText};
@@ -20,7 +21,7 @@ use dd_json::Style;
 use dd_keys::value_at;
 use dd_lines::LineBuffer;
 use dd_records::Level;
-use dd_records::table::{FILE, PATIENT_ID, SERIES_UID, STUDY_UID};
+use dd_records::table::{FILE, INSTANCE, PATIENT_ID, SERIES_UID, STUDY_UID};
 use dd_set::DataSet;
 use dd_walk::{Forest, Tree};
 use itoa::Buffer;
@@ -252,6 +253,19 @@ pub(crate) fn label_tag(kind: &[u8]) -> Tag
         SERIES_UID.tag
     } else {
         FILE.tag
+    }
+}
+
+/// Gives the element with the UID of what a record stands for.
+pub(crate) fn uid_tag(kind: &[u8]) -> Tag
+    ensures { result ≡ uid_tag kind.now }
+{
+    if kind == Level::Study.kind() {
+        STUDY_UID.tag
+    } else if kind == Level::Series.kind() {
+        SERIES_UID.tag
+    } else {
+        INSTANCE.tag
     }
 }
 

@@ -3,18 +3,18 @@ ghost use Rattle.std.specs.Prelude.{◌≡◌, ◌∷◌, [], codes};
 ghost use Rattle.dd_set.specs.Views.{set_view};
 ghost use Rattle.dd_walk.specs.ForestViews.{tree_view};
 ghost use Rattle.dd_report.specs.FoundRecords.{found_line, found_row, path_data};
-ghost use Rattle.dd_report.specs.Listing.{elements_in, members_with, record_json, record_members, set_json};
-ghost use Rattle.dd_report.specs.Listing.{totals_json, withdrawn_json};
+ghost use Rattle.dd_report.specs.Listing.{elements_in, members_with, named_members, record_json, record_members};
+ghost use Rattle.dd_report.specs.Listing.{set_json, totals_json, uid_members, withdrawn_json};
 ghost use Rattle.dd_report.specs.MemberTexts.{back_text, front_text, member_text, more_text, open_text};
 ghost use Rattle.dd_report.specs.declared.known.Form.TheVariants.{Long};
 ghost use Rattle.dd_json.specs.declared.value.Json.{Object};
-ghost use Rattle.dd_json.specs.Values.{json_line, members_view, printed, value_of};
+ghost use Rattle.dd_json.specs.Values.{json_line, members_in, members_view, printed, value_of};
 ghost use Rattle.dd_lines.specs.Telling.{Tells, way_of};
 
 use crate::findings::{file_in, value_in};
 use crate::found_records::FoundRecord;
 use crate::known::Form;
-use crate::listing::label_tag;
+use crate::listing::{label_tag, uid_tag};
 use dd_dicom_json::{CharacterSet, add_elements};
 use dd_elem::Write;
 use dd_json::{Json, add_json, add_json_line, add_member_name, add_raw};
@@ -23,8 +23,8 @@ use dd_set::DataSet;
 use dd_walk::Tree;
 use std::fmt;
 
-/// Adds the object of a record. The File ID is a member only where the record has one; in the long form the last member
-/// is the data set.
+/// Adds the object of a record. File ID and UID are members only where the record has them; in the long form the last
+/// member is the data set.
 pub(crate) fn add_record<W: Write>(
     tree: &Tree<'_>,
     level: u64,
@@ -43,6 +43,28 @@ pub(crate) fn add_record<W: Write>(
 fn add_front<W: Write>(tree: &Tree<'_>, level: u64, lines: &mut LineBuffer<'_, W>) -> fmt::Result
     ensures same { lines.new.to.ghost_name ≡ lines.old.to.ghost_name }
     ensures written { Tells result (front_text (record_members level (tree_view tree.now).node))
+        (way_of W.Write lines.old) (way_of W.Write lines.new) }
+{
+    add_named(tree, level, lines)?;
+    add_uid(value_in(tree, uid_tag(tree.kind)), lines)
+}
+
+/// Adds the UID where there is one.
+fn add_uid<W: Write>(uid: &[u8], lines: &mut LineBuffer<'_, W>) -> fmt::Result
+    ensures same { lines.new.to.ghost_name ≡ lines.old.to.ghost_name }
+    ensures written { Tells result (more_text (members_in (uid_members uid.now)))
+        (way_of W.Write lines.old) (way_of W.Write lines.new) }
+{
+    if uid.is_empty() {
+        return Ok(());
+    }
+    add_member("uid", &Json::Shown(uid), lines)
+}
+
+/// Opens the object with all other members.
+fn add_named<W: Write>(tree: &Tree<'_>, level: u64, lines: &mut LineBuffer<'_, W>) -> fmt::Result
+    ensures same { lines.new.to.ghost_name ≡ lines.old.to.ghost_name }
+    ensures written { Tells result (front_text (named_members level (tree_view tree.now).node))
         (way_of W.Write lines.old) (way_of W.Write lines.new) }
 {
     let file = file_in(tree);

@@ -19,7 +19,7 @@ use Rattle.dd_sources.specs.Supply.{IsAnswer}
 use Rattle.dd_files.specs.Files.{Held}
 use Rattle.dicomdir.specs.FileSupply.{IsThere, contents_at, contents_by, is_one}
 use Rattle.dicomdir.specs.Indexes.{AnswersName, most_of_source}
-use Rattle.dicomdir.specs.ListedNames.{AreRising, HavePaths}
+use Rattle.dd_inputs.specs.ListedNames.{AreRising, HavePaths}
 
 -- ---- a search among the numbers
 

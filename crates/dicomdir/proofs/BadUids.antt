@@ -6,8 +6,8 @@ use Rattle.dd_catalogue.proofs.FirstAndRest.{first_and_rest, rest_of}
 use Rattle.dd_elem.specs.Uid.{IsUid}
 use Rattle.dd_line.specs.Line.{words_of}
 use Rattle.dicomdir.specs.Names.{HasBadUid}
-use Rattle.dd_file_set.specs.Refusal.{IsBadLine}
-use Rattle.dd_file_set.specs.declared.refusal.ProgramFault.{ProgramFault}
+use Rattle.dd_faults.specs.Refusal.{IsBadLine}
+use Rattle.dd_faults.specs.declared.refusal.ProgramFault.{ProgramFault}
 
 first_bad : (text : String Global) (texts : List (String Global)) → ¬ IsUid (string_bytes text)
     → HasBadUid (text ∷ texts)

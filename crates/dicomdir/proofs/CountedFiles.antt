@@ -31,7 +31,7 @@ use Rattle.dicomdir.proofs.ReadSources.{AllCounted, AreAll, all_answers, all_pas
 use Rattle.dicomdir.proofs.ShortFiles.{short_file}
 use Rattle.dicomdir.specs.FileSupply.{IsThere, contents_by, counts_at}
 use Rattle.dicomdir.specs.Indexes.{CountsPicks, limits_of, most_of_source}
-use Rattle.dicomdir.specs.ListedNames.{HavePaths}
+use Rattle.dd_inputs.specs.ListedNames.{HavePaths}
 use Rattle.dicomdir.specs.declared.source_counts.SourceCounts.{SourceCounts}
 
 -- ---- sums

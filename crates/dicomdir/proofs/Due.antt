@@ -2,11 +2,11 @@
 use Rattle.std.proofs.Common.{ℕ, Bool}
 use Rattle.dd_elem.specs.declared.device.Read.{Ghosts as ReadOf}
 use Rattle.dd_file_set.specs.Reasons.{IsDueTo}
-use Rattle.dd_file_set.specs.declared.refusal.ProgramFault.{ProgramFault}
-use Rattle.dd_file_set.specs.declared.refusal.ProgramFault.TheVariants.{Absent, BadName, BadStage, Changed, Create, Dir}
-use Rattle.dd_file_set.specs.declared.refusal.ProgramFault.TheVariants.{Folder, ListTooLarge, Memory, Own, Plan, SetId}
-use Rattle.dd_file_set.specs.declared.refusal.ProgramFault.TheVariants.{Strict, TooLong, Uid, Unread, Unsent}
-use Rattle.dicomdir.specs.Reasons.{IsDue, IsOfEngine}
+use Rattle.dd_faults.specs.declared.refusal.ProgramFault.{ProgramFault}
+use Rattle.dd_faults.specs.declared.refusal.ProgramFault.TheVariants.{Absent, BadName, BadStage, Changed, Create, Dir}
+use Rattle.dd_faults.specs.declared.refusal.ProgramFault.TheVariants.{Folder, ListTooLarge, Memory, Own, Plan, SetId}
+use Rattle.dd_faults.specs.declared.refusal.ProgramFault.TheVariants.{Strict, TooLong, Uid, Unread, Unsent}
+use Rattle.dd_faults.specs.Reasons.{IsDue}
 
 module _ {R : Type 0} (reads : ReadOf R) (refusals failures : ℕ) (strict : Bool) where
   -- of making a file-set
@@ -29,23 +29,3 @@ module _ {R : Type 0} (reads : ReadOf R) (refusals failures : ℕ) (strict : Boo
   making_due (Own fault) due = absurd due
   making_due Strict due = absurd due
   making_due (BadName number) due = absurd due
-
-  -- of an engine
-  pub engine_due : (fault : ProgramFault) → IsOfEngine fault → IsDue reads refusals failures strict fault
-  engine_due (Plan fault) is = tt
-  engine_due TooLong is = tt
-  engine_due ListTooLarge is = tt
-  engine_due (BadStage item) is = tt
-  engine_due (Dir fault) is = tt
-  engine_due (Own fault) is = tt
-  engine_due Memory is = tt
-  engine_due (Uid bad) is = absurd is
-  engine_due (SetId bad) is = absurd is
-  engine_due Absent is = absurd is
-  engine_due Unread is = absurd is
-  engine_due Create is = absurd is
-  engine_due Folder is = absurd is
-  engine_due Unsent is = absurd is
-  engine_due Changed is = absurd is
-  engine_due Strict is = absurd is
-  engine_due (BadName number) is = absurd is

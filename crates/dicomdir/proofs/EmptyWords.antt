@@ -12,7 +12,7 @@ use Rattle.std.specs.declared.alloc.Global.{Global}
 use Rattle.std.proofs.lemmas.List.{get_or-map, length-map}
 use Rattle.std.proofs.lemmas.Option.{same_Some}
 use Rattle.clap.specs.Words.{Row, Text}
-use Rattle.dicomdir.specs.EmptyPaths.{RequestsEmptyPath, HasEmptyPath, IsEmptyAt}
+use Rattle.dd_inputs.specs.EmptyPaths.{RequestsEmptyPath, HasEmptyPath, IsEmptyAt}
 
 contains_empty : (paths : List (String Global)) → Contains (map (λ path. string_bytes path) paths) []
     → (at : ℕ) × IsEmptyAt paths at

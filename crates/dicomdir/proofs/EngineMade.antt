@@ -10,7 +10,8 @@ use Rattle.dd_file_set.proofs.AllStanding.{stands_whole}
 use Rattle.dicomdir.specs.Indexes.{limits_of}
 use Rattle.dd_file_set.specs.Made.{MakesFileSet}
 use Rattle.dicomdir.specs.Origins.{IsMemberPath}
-use Rattle.dicomdir.specs.Merges.{AreDirectories, DoneMerges, HasDirectory}
+use Rattle.dicomdir.specs.Merges.{AreDirectories, DoneMerges}
+use Rattle.dd_inspecting.specs.Directories.{HasDirectory}
 
 -- what is so where a command has made its file-set is so where it is done
 pub once_done : {E : Type 0} (r : Result ℕ E) (Made : Type 0) → (IsOk r → Made)

@@ -1,9 +1,9 @@
 -- The first of one path is the first of some.
 use Rattle.std.proofs.Common.{ℕ, ◌<◌, arith}
-use Rattle.dd_file_set.specs.declared.refusal.Refusal.{Refusal}
-use Rattle.dd_file_set.specs.declared.refusal.Subject.{Subject}
-use Rattle.dd_file_set.specs.declared.refusal.Subject.TheVariants as subject
-use Rattle.dd_file_set.specs.Refusal.{IsAmong, IsOfWork}
+use Rattle.dd_faults.specs.declared.refusal.Refusal.{Refusal}
+use Rattle.dd_faults.specs.declared.refusal.Subject.{Subject}
+use Rattle.dd_faults.specs.declared.refusal.Subject.TheVariants as subject
+use Rattle.dd_faults.specs.Refusal.{IsAmong, IsOfWork}
 
 among_some : (paths : ℕ) (named : Subject) → 0 < paths → IsAmong 1 named → IsAmong paths named
 among_some paths subject.General some among = tt

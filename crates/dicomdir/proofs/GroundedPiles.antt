@@ -7,13 +7,13 @@ use Rattle.dd_engine.specs.declared.noted_index.NotedIndex.{NotedIndex}
 use Rattle.dd_engine.specs.Found.{HasFound}
 use Rattle.dd_engine.specs.Indexed.{Indexes}
 use Rattle.dd_keys.specs.Sources.{Answer}
-use Rattle.dd_file_set.specs.Refusal.{IsStrict}
-use Rattle.dd_file_set.specs.declared.refusal.ProgramFault.{ProgramFault}
-use Rattle.dd_file_set.specs.declared.refusal.ProgramFault.TheVariants.{Absent, BadName, BadStage, Changed, Create, Dir}
-use Rattle.dd_file_set.specs.declared.refusal.ProgramFault.TheVariants.{Folder, ListTooLarge, Memory, Own, Plan, SetId}
-use Rattle.dd_file_set.specs.declared.refusal.ProgramFault.TheVariants.{Strict, TooLong, Uid, Unread, Unsent}
-use Rattle.dd_file_set.specs.declared.refusal.Refusal.{Refusal}
-use Rattle.dd_file_set.specs.declared.refusal.Subject.{Subject}
+use Rattle.dd_faults.specs.Refusal.{IsStrict}
+use Rattle.dd_faults.specs.declared.refusal.ProgramFault.{ProgramFault}
+use Rattle.dd_faults.specs.declared.refusal.ProgramFault.TheVariants.{Absent, BadName, BadStage, Changed, Create, Dir}
+use Rattle.dd_faults.specs.declared.refusal.ProgramFault.TheVariants.{Folder, ListTooLarge, Memory, Own, Plan, SetId}
+use Rattle.dd_faults.specs.declared.refusal.ProgramFault.TheVariants.{Strict, TooLong, Uid, Unread, Unsent}
+use Rattle.dd_faults.specs.declared.refusal.Refusal.{Refusal}
+use Rattle.dd_faults.specs.declared.refusal.Subject.{Subject}
 use Rattle.dd_files.specs.Files.{Held}
 use Rattle.dd_layout.specs.declared.fault.PlanFault.{PlanFault}
 use Rattle.dd_pile.specs.declared.refusal.StageRefusal.{StageRefusal}
@@ -21,7 +21,8 @@ use Rattle.dd_pile.specs.declared.refusal.StageRefusal.TheVariants as stage
 use Rattle.dd_version.specs.declared.parts.Parts.{Parts}
 use Rattle.dicomdir.proofs.MadeGrounds.{strict_grounds, unfit_by}
 use Rattle.dicomdir.proofs.PilesMade.{NotesFound, copy_of, same_size}
-use Rattle.dicomdir.specs.Grounds.{GroundsOfMaking, GroundsOfPiles, GroundsOfStage, HasChangedCopy, HasNoList}
+use Rattle.dd_faults.specs.Grounds.{GroundsOfMaking}
+use Rattle.dicomdir.specs.Grounds.{GroundsOfPiles, GroundsOfStage, HasChangedCopy, HasNoList}
 use Rattle.dicomdir.specs.Grounds.{HasUnfitImage, PilesHaveNoPlan}
 use Rattle.dicomdir.specs.Indexes.{limits_of}
 use Rattle.dicomdir.specs.Noted.{IsNotedIndex}

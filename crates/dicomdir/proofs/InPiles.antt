@@ -5,7 +5,7 @@ use Rattle.std.proofs.lemmas.Grind.{flat_map-append}
 use Rattle.std.proofs.lemmas.List.{length-append}
 use Rattle.dd_staged.specs.Sources.{Source}
 use Rattle.dicomdir.proofs.BadNames.{before_or_past}
-use Rattle.dicomdir.proofs.HavingPaths.{last_or_before}
+use Rattle.dd_inputs.proofs.HavingPaths.{last_or_before}
 use Rattle.dicomdir.specs.Publishes.{IsInPile, sources_in}
 
 -- ---- sources in a row

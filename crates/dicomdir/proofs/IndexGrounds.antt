@@ -8,20 +8,21 @@ use Rattle.dd_engine.specs.declared.choice.Choice.{Choice}
 use Rattle.dd_sources.specs.declared.engine_fault.EngineFault.{EngineFault}
 use Rattle.dd_sources.specs.declared.engine_fault.EngineFault.TheVariants as engine
 use Rattle.dd_engine.specs.declared.noted_index.NotedIndex.{NotedIndex}
-use Rattle.dd_file_set.specs.declared.refusal.ProgramFault.{ProgramFault}
-use Rattle.dd_file_set.specs.declared.refusal.ProgramFault.TheVariants.{Absent, BadName, BadStage, Changed, Create, Dir}
-use Rattle.dd_file_set.specs.declared.refusal.ProgramFault.TheVariants.{Folder, ListTooLarge, Memory, Own, Plan, SetId}
-use Rattle.dd_file_set.specs.declared.refusal.ProgramFault.TheVariants.{Strict, TooLong, Uid, Unread, Unsent}
-use Rattle.dd_file_set.specs.Refusal.{IsStrict}
-use Rattle.dd_file_set.specs.declared.refusal.Refusal.{Refusal}
+use Rattle.dd_faults.specs.declared.refusal.ProgramFault.{ProgramFault}
+use Rattle.dd_faults.specs.declared.refusal.ProgramFault.TheVariants.{Absent, BadName, BadStage, Changed, Create, Dir}
+use Rattle.dd_faults.specs.declared.refusal.ProgramFault.TheVariants.{Folder, ListTooLarge, Memory, Own, Plan, SetId}
+use Rattle.dd_faults.specs.declared.refusal.ProgramFault.TheVariants.{Strict, TooLong, Uid, Unread, Unsent}
+use Rattle.dd_faults.specs.Refusal.{IsStrict}
+use Rattle.dd_faults.specs.declared.refusal.Refusal.{Refusal}
 use Rattle.dd_files.specs.Files.{Held}
 use Rattle.dd_layout.specs.Plans.{records_of}
 use Rattle.dd_layout.specs.declared.fault.PlanFault.{PlanFault}
 use Rattle.dicomdir.proofs.MadeGrounds.{strict_grounds, unfit_by}
 use Rattle.dicomdir.proofs.PickedSources.{picks_named}
-use Rattle.dicomdir.specs.Grounds.{GroundsOfIndex, GroundsOfMaking, HasChangedSource, HasUnfitImage, HaveNoPlan, run_fault}
+use Rattle.dicomdir.specs.Grounds.{GroundsOfIndex, HasChangedSource, HasUnfitImage, HaveNoPlan, run_fault}
+use Rattle.dd_faults.specs.Grounds.{GroundsOfMaking}
 use Rattle.dicomdir.specs.Indexes.{Indexes}
-use Rattle.dicomdir.specs.ListedNames.{HavePaths}
+use Rattle.dd_inputs.specs.ListedNames.{HavePaths}
 use Rattle.dicomdir.specs.Noted.{IsNotedIndex}
 use Rattle.dicomdir.specs.Origins.{IsPathAt}
 

@@ -16,9 +16,10 @@ use Rattle.dd_line.specs.declared.request.Request.TheVariants.{Check as ToCheck,
 use Rattle.dd_line.proofs.RequestLemmas.{says_parts}
 use Rattle.dd_report.specs.declared.checking.Comparison.{Comparison}
 use Rattle.dd_report.specs.declared.known.Form.{Form}
-use Rattle.dicomdir.specs.Inspecting.{ChecksSet, IsList, ListsSet, PrintsRequested, comparison_by, comparison_in, form_by}
+use Rattle.dd_inspecting.specs.Inspecting.{ChecksSet, ListsSet, comparison_by, form_by}
+use Rattle.dicomdir.specs.InspectingLines.{IsList, PrintsRequested, comparison_in}
 use Rattle.dd_refusals.specs.Styles.{style_by}
-use Rattle.dicomdir.specs.Inspecting.{first_path, form_in, style_in}
+use Rattle.dicomdir.specs.InspectingLines.{first_path, form_in, style_in}
 
 -- the first path of a line that gives one
 one_path : (r : Request) (command : Text) (given : List Row) (set : Text) → Requests r command given

@@ -13,7 +13,7 @@ use Rattle.dd_line.specs.declared.request.Request.{Request}
 use Rattle.dd_line.specs.declared.request.Request.TheVariants.{Check, Index, List as ListSet, Merge, Publish, Stage, Withdraw}
 use Rattle.dicomdir.proofs.LinesMade.{from_is}
 use Rattle.dicomdir.proofs.MadeLast.{directory_none, keeps_same, list_none}
-use Rattle.dicomdir.specs.From.{from_text, looked_up}
+use Rattle.dd_inputs.specs.From.{from_text, looked_up}
 use Rattle.dicomdir.specs.Last.{MakesLastBy, MakesLastLine, MakesLastOf, StagesListLast}
 use Rattle.dd_file_set.specs.Left.{MakesDirectoryLast}
 

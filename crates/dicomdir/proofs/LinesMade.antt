@@ -15,9 +15,9 @@ use Rattle.dd_line.specs.declared.request.PublishRequest.{PublishRequest}
 use Rattle.dd_line.specs.declared.request.Request.{Request}
 use Rattle.dd_line.specs.declared.request.Request.TheVariants.{Check, Index, List as ListSet, Merge, Publish, Stage, Withdraw}
 use Rattle.dd_line.specs.declared.request.StageRequest.{StageRequest}
-use Rattle.dicomdir.specs.From.{from_text, looked_up, looked_up_list}
+use Rattle.dd_inputs.specs.From.{from_text, looked_up, looked_up_list}
 use Rattle.dicomdir.specs.Indexes.{DoneIndexes, IsIndexStatus, MakesIndex}
-use Rattle.dicomdir.specs.ListedNames.{AreSources}
+use Rattle.dd_inputs.specs.ListedNames.{AreSources}
 use Rattle.dd_refusals.specs.Styles.{style_by}
 use Rattle.dicomdir.specs.Lines.{IndexesLine, IsIndex, IsMerge, IsPublish, IsStage, IsWithdraw, MergesLine}
 use Rattle.dicomdir.specs.Lines.{PublishesLine, StagesLine, WithdrawsLine, list_in}

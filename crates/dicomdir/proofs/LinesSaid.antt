@@ -20,7 +20,7 @@ use Rattle.dd_line.specs.declared.request.Request.TheVariants.{Check, Index, Lis
 use Rattle.dd_line.specs.declared.request.WithdrawRequest.{WithdrawRequest}
 use Rattle.dicomdir.proofs.LinesMade.{list_is, sources_as, unlike, unlike_one, zero_of_two}
 use Rattle.dd_refusals.specs.Styles.{style_by}
-use Rattle.dicomdir.specs.ListedNames.{AreSources}
+use Rattle.dd_inputs.specs.ListedNames.{AreSources}
 use Rattle.dicomdir.specs.Lines.{IndexSays, IsIndex, IsMerge, IsPublish, IsWithdraw, MergeSays, PublishSays}
 use Rattle.dicomdir.specs.Lines.{SaysOfPiles, SaysOfSet, SaysOfSets, SaysOfSources, WithdrawSays, choice_of}
 use Rattle.dicomdir.specs.Done.{IsDone}

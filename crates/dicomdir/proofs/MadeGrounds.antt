@@ -7,16 +7,17 @@ use Rattle.dd_elem.specs.declared.device.Read.{Ghosts as ReadOf}
 use Rattle.dd_file_set.proofs.Unlinked.{SaysToo, bytes_by}
 use Rattle.dd_file_set.specs.Changed.{IfChanged, IsUnfit}
 use Rattle.dd_file_set.specs.Reasons.{IsDueTo}
-use Rattle.dd_file_set.specs.Refusal.{IsStrict}
-use Rattle.dd_file_set.specs.declared.refusal.ProgramFault.{ProgramFault}
-use Rattle.dd_file_set.specs.declared.refusal.ProgramFault.TheVariants.{Absent, BadName, BadStage, Changed, Create, Dir}
-use Rattle.dd_file_set.specs.declared.refusal.ProgramFault.TheVariants.{Folder, ListTooLarge, Memory, Own, Plan, SetId}
-use Rattle.dd_file_set.specs.declared.refusal.ProgramFault.TheVariants.{Strict, TooLong, Uid, Unread, Unsent}
-use Rattle.dd_file_set.specs.declared.refusal.Refusal.{Refusal}
+use Rattle.dd_faults.specs.Refusal.{IsStrict}
+use Rattle.dd_faults.specs.declared.refusal.ProgramFault.{ProgramFault}
+use Rattle.dd_faults.specs.declared.refusal.ProgramFault.TheVariants.{Absent, BadName, BadStage, Changed, Create, Dir}
+use Rattle.dd_faults.specs.declared.refusal.ProgramFault.TheVariants.{Folder, ListTooLarge, Memory, Own, Plan, SetId}
+use Rattle.dd_faults.specs.declared.refusal.ProgramFault.TheVariants.{Strict, TooLong, Uid, Unread, Unsent}
+use Rattle.dd_faults.specs.declared.refusal.Refusal.{Refusal}
 use Rattle.dd_files.specs.Files.{Held}
 use Rattle.dd_layout.specs.Layouts.{Layout}
 use Rattle.dd_version.specs.declared.parts.Parts.{Parts}
-use Rattle.dicomdir.specs.Grounds.{GroundsOfMaking, HasUnfitImage}
+use Rattle.dd_faults.specs.Grounds.{GroundsOfMaking}
+use Rattle.dicomdir.specs.Grounds.{HasUnfitImage}
 
 pub made_grounds : {R : Type 0} (reads : ReadOf R) (refusals failures : ℕ) (HasChanged : Type 0) (fault : ProgramFault)
     → IsDueTo reads refusals failures fault → IfChanged HasChanged fault → GroundsOfMaking HasChanged ⊥ fault

@@ -15,7 +15,7 @@ use Rattle.dd_sources.specs.Readings.{Reading, answers_of}
 use Rattle.dd_files.specs.Files.{Held}
 use Rattle.dd_keys.specs.declared.fault.KeyFault.{KeyFault}
 use Rattle.dd_keys.specs.declared.fault.KeyFault.TheVariants as keys
-use Rattle.dicomdir.specs.ListedNames.{HavePaths}
+use Rattle.dd_inputs.specs.ListedNames.{HavePaths}
 use Rattle.dd_file_set.proofs.AllStanding.{stands_whole}
 use Rattle.dicomdir.proofs.PickedSources.{picks_named}
 use Rattle.dd_file_set.proofs.Unlinked.{set_by}

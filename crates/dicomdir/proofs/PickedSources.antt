@@ -13,7 +13,7 @@ use Rattle.dd_records.specs.declared.record.PlanRecord.{PlanRecord}
 use Rattle.dd_version.specs.declared.parts.Parts.{Parts}
 use Rattle.dd_file_set.proofs.Unlinked.{SaysToo}
 use Rattle.dicomdir.specs.Indexes.{AnswersName, AreRead, IsRead}
-use Rattle.dicomdir.specs.ListedNames.{HavePaths}
+use Rattle.dd_inputs.specs.ListedNames.{HavePaths}
 use Rattle.dicomdir.specs.Origins.{IsPathAt}
 
 -- ---- what is picked

@@ -11,7 +11,7 @@ use Rattle.dd_pile.specs.Lists.{IfList}
 use Rattle.dd_staged.specs.Sources.{Source}
 use Rattle.dd_staged.specs.Stages.{IsStage}
 use Rattle.dd_version.specs.declared.parts.Parts.{Parts}
-use Rattle.dicomdir.proofs.HavingPaths.{last_or_before}
+use Rattle.dd_inputs.proofs.HavingPaths.{last_or_before}
 use Rattle.dicomdir.proofs.InPiles.{in_more, in_start, in_within, same_sources, sources_more, sources_then}
 use Rattle.dicomdir.proofs.UnreadPiles.{listed_more, names_more as bad_names_more, names_start}
 use Rattle.dicomdir.specs.Publishes.{AreLists, ArePlaces, AreShown, HasPiled, IsPiled, IsPlaceOf, IsShown}

@@ -13,7 +13,7 @@ use Rattle.dd_json.specs.declared.value.Style.{Style}
 use Rattle.dd_lines.specs.Text.{TakesText}
 use Rattle.dicomdir.specs.FileSupply.{bytes_read}
 use Rattle.dicomdir.specs.Indexes.{CountsPicks, Indexes, bytes_of_files, limits_of, status_past}
-use Rattle.dicomdir.specs.ListedNames.{HavePaths}
+use Rattle.dd_inputs.specs.ListedNames.{HavePaths}
 use Rattle.dicomdir.specs.Merges.{AreDirectories}
 use Rattle.dicomdir.specs.Noted.{IsNoted, IsNotedIndex}
 use Rattle.dicomdir.specs.Prints.{IsLastLine, PrintsIndex, PrintsMerge, last_line}

@@ -23,7 +23,7 @@ use Rattle.dicomdir.proofs.BadNames.{answers_name}
 use Rattle.dicomdir.specs.FileSupply.{IsThere, contents_by}
 use Rattle.dicomdir.specs.Grounds.{HaveNoPlan}
 use Rattle.dicomdir.specs.Indexes.{AnswersName, AreRead, Indexes, IsRead, NoneFailed, limits_of, most_of_source}
-use Rattle.dicomdir.specs.ListedNames.{HavePaths}
+use Rattle.dd_inputs.specs.ListedNames.{HavePaths}
 
 -- ---- readings of either kind
 

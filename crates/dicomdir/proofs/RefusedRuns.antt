@@ -4,21 +4,22 @@ use Rattle.std.specs.Prelude.{◌⊎◌}
 use Rattle.clap.specs.Words.{Text}
 use Rattle.dd_elem.specs.declared.device.Read.{Ghosts as ReadOf}
 use Rattle.dd_elem.specs.declared.device.Write.{Ghosts as WriteOf}
-use Rattle.dd_file_set.specs.Refusal.{IsBadLine}
-use Rattle.dd_file_set.specs.declared.refusal.ProgramFault.{ProgramFault}
-use Rattle.dd_file_set.specs.declared.refusal.ProgramFault.TheVariants.{Memory}
-use Rattle.dd_file_set.specs.declared.refusal.Refusal.{Refusal}
-use Rattle.dd_file_set.specs.declared.refusal.Subject.TheVariants.{General}
+use Rattle.dd_faults.specs.Refusal.{IsBadLine}
+use Rattle.dd_faults.specs.declared.refusal.ProgramFault.{ProgramFault}
+use Rattle.dd_faults.specs.declared.refusal.ProgramFault.TheVariants.{Memory}
+use Rattle.dd_faults.specs.declared.refusal.Refusal.{Refusal}
+use Rattle.dd_faults.specs.declared.refusal.Subject.TheVariants.{General}
 use Rattle.dd_files.specs.Files.{Held}
 use Rattle.dd_line.specs.Line.{words_of}
 use Rattle.dd_line.specs.Requests.{folder_of, id_of, instances_of, read_of, uid_of}
 use Rattle.dd_line.specs.declared.request.Request.{Request}
-use Rattle.dicomdir.specs.EmptyPaths.{IsOfEmptyPath, RequestsEmptyPath}
+use Rattle.dd_inputs.specs.EmptyPaths.{IsOfEmptyPath, RequestsEmptyPath}
 use Rattle.dd_refusals.specs.Faults.{TellsRefusal}
-use Rattle.dicomdir.specs.From.{given_list}
+use Rattle.dd_inputs.specs.From.{given_list}
 use Rattle.dicomdir.specs.Grounds.{HasGrounds}
 use Rattle.dicomdir.specs.Names.{choice_by}
-use Rattle.dicomdir.specs.Reasons.{IsDue, IsDueBefore}
+use Rattle.dd_faults.specs.Reasons.{IsDue}
+use Rattle.dd_inputs.specs.Reasons.{IsDueBefore}
 use Rattle.dicomdir.specs.Refused.{IsRefused, MayNameOf, refuses_notes}
 
 module _ {R E : Type 0} (reads : ReadOf R) (writer : WriteOf E) (r : Request) (refusals failures : ℕ)

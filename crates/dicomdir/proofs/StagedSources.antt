@@ -11,12 +11,12 @@ use Rattle.dd_lines.specs.Text.{TakesText}
 use Rattle.dd_pile.specs.Piles.{HaveNames, MakesPile}
 use Rattle.dd_pile.specs.declared.source.StageSource.{StageSource}
 use Rattle.dd_pile.specs.declared.sum.StageSum.{StageSum}
-use Rattle.dicomdir.proofs.HavingPaths.{have_given}
+use Rattle.dd_inputs.proofs.HavingPaths.{have_given}
 use Rattle.dicomdir.specs.Done.{IsDone}
 use Rattle.dicomdir.specs.FileSupply.{is_one}
-use Rattle.dicomdir.specs.From.{is_absolute, looked_up}
+use Rattle.dd_inputs.specs.From.{is_absolute, looked_up}
 use Rattle.dicomdir.specs.Indexes.{IsIndexStatus}
-use Rattle.dicomdir.specs.ListedNames.{HavePaths}
+use Rattle.dd_inputs.specs.ListedNames.{HavePaths}
 use Rattle.dicomdir.specs.Stages.{MakesNamed, Stages, staged_text, status_staged}
 
 -- in the current folder a relative path is looked up like an absolute one

@@ -1,6 +1,6 @@
 -- What a fault rests on that is of what was read: of sources, file-sets or piles, or of the files of picks.
-use Rattle.std.specs.Prelude.{◌≡◌, ◌≤◌, ◌^◌, ◌∷◌, ℕ, Bool, false, true, List, [], Option, Err, IfSome, IsSomeAnd, None}
-use Rattle.std.specs.Prelude.{Ok, codes, length, slice_index_or, string_bytes}
+use Rattle.std.specs.Prelude.{◌≡◌, ◌∷◌, ℕ, Bool, false, true, List, [], Option, Err, None}
+use Rattle.std.specs.Prelude.{Ok, slice_index_or, string_bytes}
 use Rattle.clap.specs.Words.{Text}
 use Rattle.dd_walk.specs.Reading.{Refuses}
 use Rattle.dd_engine.specs.Indexed.{Indexes, IsIndexed}
@@ -18,16 +18,15 @@ use Rattle.dd_engine.specs.declared.noted_index.NotedIndex.{NotedIndex}
 use Rattle.dd_engine.specs.declared.noted_merge.NotedMerge.{NotedMerge}
 use Rattle.dd_engine.specs.declared.merge_fault.MergeFault.TheVariants as merging
 use Rattle.dd_file_set.specs.Changed.{HasUnfitPick}
-use Rattle.dd_file_set.specs.Refusal.{IsPileFile}
+use Rattle.dd_faults.specs.Refusal.{IsPileFile}
 use Rattle.dd_file_set.specs.Standing.{picked_rows}
-use Rattle.dd_file_set.specs.declared.refusal.ProgramFault.{ProgramFault}
-use Rattle.dd_file_set.specs.declared.refusal.ProgramFault.TheVariants.{Absent, BadStage, Changed, Dir, ListTooLarge, Memory}
-use Rattle.dd_file_set.specs.declared.refusal.ProgramFault.TheVariants.{Own, Plan, Strict, TooLong, Unread}
-use Rattle.dd_file_set.specs.declared.refusal.Refusal.{Refusal}
-use Rattle.dd_file_set.specs.declared.refusal.Subject.{Subject}
-use Rattle.dd_file_set.specs.declared.refusal.Subject.TheVariants as subjects
+use Rattle.dd_faults.specs.declared.refusal.ProgramFault.{ProgramFault}
+use Rattle.dd_faults.specs.declared.refusal.ProgramFault.TheVariants.{Absent, BadStage, Dir, ListTooLarge, Memory}
+use Rattle.dd_faults.specs.declared.refusal.ProgramFault.TheVariants.{Own, Plan, TooLong, Unread}
+use Rattle.dd_faults.specs.declared.refusal.Refusal.{Refusal}
+use Rattle.dd_faults.specs.declared.refusal.Subject.{Subject}
+use Rattle.dd_faults.specs.declared.refusal.Subject.TheVariants as subjects
 use Rattle.dd_files.specs.Files.{Held}
-use Rattle.dd_files.specs.Paths.{IsPathIn}
 use Rattle.dd_line.specs.Line.{words_of}
 use Rattle.dd_line.specs.Requests.{keeps_going, read_of}
 use Rattle.dd_line.specs.declared.request.Request.{Request}
@@ -41,47 +40,22 @@ use Rattle.dd_pile.specs.Piles.{HasNoRoom}
 use Rattle.dd_pile.specs.declared.source.StageSource.{StageSource}
 use Rattle.dd_staged.specs.Refusals.{IsBadStage}
 use Rattle.dd_staged.specs.Sources.{Source}
-use Rattle.dicomdir.specs.From.{from_text}
+use Rattle.dd_inputs.specs.From.{from_text}
 use Rattle.dicomdir.specs.Indexes.{AreRead, NoneFailed, limits_of}
-use Rattle.dicomdir.specs.ListedNames.{AreSources, list_of}
-use Rattle.dicomdir.specs.Merges.{AreDirectories, HasDirectory}
+use Rattle.dd_inputs.specs.ListedNames.{AreSources, list_of}
+use Rattle.dicomdir.specs.Merges.{AreDirectories}
 use Rattle.dicomdir.specs.Noted.{IsNoted, IsNotedIndex}
 use Rattle.dicomdir.specs.Origins.{IsMemberPath, IsPathAt}
 use Rattle.dicomdir.specs.Publishes.{AreLists, IsCopyOf, MayLinkCopy, answers_in, said_in}
 use Rattle.dicomdir.specs.Stages.{AreNamed}
+use Rattle.dd_faults.specs.Grounds.{GroundsOfMaking, NeedsNoGrounds}
+use Rattle.dd_files.specs.ReadToEnd.{IsTooLong}
+use Rattle.dd_inspecting.specs.Directories.{HasSuchDirectory}
+use Rattle.dd_inspecting.specs.Grounds.{GroundsOfCheck, GroundsOfList}
 
 -- ---- faults
 
--- The grounds of a fault once there is a plan: where a file is said to have changed, the first; where a line SKIP or NOTE
--- refuses a strict run, the second. No other needs any.
-abbrev pub GroundsOfMaking : Type 0 → Type 0 → ProgramFault → Type 0
-GroundsOfMaking HasChanged Noted Changed = HasChanged
-GroundsOfMaking HasChanged Noted Strict = Noted
-GroundsOfMaking HasChanged Noted (Plan fault) = ⊥
-GroundsOfMaking HasChanged Noted TooLong = ⊥
-GroundsOfMaking HasChanged Noted ListTooLarge = ⊥
-GroundsOfMaking HasChanged Noted (BadStage item) = ⊥
-GroundsOfMaking HasChanged Noted (Dir fault) = ⊥
-GroundsOfMaking HasChanged Noted (Own fault) = ⊥
-GroundsOfMaking HasChanged Noted fault = Unit {0}
-
--- a fault that is not of what was read
-abbrev pub NeedsNoGrounds : ProgramFault → Type 0
-NeedsNoGrounds = GroundsOfMaking ⊥ ⊥
-
 -- ---- files that are read whole
-
--- more than a file may have that is read whole
-abbrev pub IsTooLong : List ℕ → Type 0
-IsTooLong bytes = 2 ^ 32 ≤ length bytes
-
--- the file at the path has bytes of which this is so, where the files say what they hold
-abbrev pub HasSuch : List ℕ → (List ℕ → Type 0) → Option Held → Type 0
-HasSuch path Is files = IfSome files (λ held. IsSomeAnd (held.bytes_at path) Is)
-
--- the directory in the folder has
-abbrev pub HasSuchDirectory : List ℕ → (List ℕ → Type 0) → Option Held → Type 0
-HasSuchDirectory folder Is files = (path : List ℕ) × IsPathIn folder (codes "DICOMDIR") path × HasSuch path Is files
 
 -- the image of one of these picks can't be made of the bytes that its file has
 abbrev pub HasUnfitImage : {P : Type 0} → (P → List ℕ → Type 0) → (P → List ℕ → Type 0) → (P → Option Parts) → Type 0
@@ -197,17 +171,6 @@ GroundsOfSets choice bytes given folders links old new subject fault =
     (HasNotedSets choice bytes given folders old) fault
 
 -- ---- `check` and `list`
-
--- the grounds of a fault of `check`
-abbrev pub GroundsOfCheck : List ℕ → Option Held → ProgramFault → Type 0
-GroundsOfCheck folder files TooLong = HasSuchDirectory folder IsTooLong files
-GroundsOfCheck folder files fault = NeedsNoGrounds fault
-
--- the grounds of a fault of `list`: also that the directory has no walk
-abbrev pub GroundsOfList : List ℕ → Option Held → ProgramFault → Type 0
-GroundsOfList folder files (Dir fault) =
-    (bytes : List ℕ) × HasDirectory folder bytes files × Refuses bytes fault
-GroundsOfList folder files fault = GroundsOfCheck folder files fault
 
 -- ---- `publish` and `stage`
 

@@ -12,7 +12,7 @@ use Rattle.dd_line.specs.declared.request.Request.{Request}
 use Rattle.dd_line.specs.declared.request.Request.TheVariants.{Check, Index, List as ListSet, Merge, Publish, Stage, Withdraw}
 use Rattle.dd_pile.specs.Last.{MakesListLast}
 use Rattle.dd_pile.specs.Paths.{IsListPath}
-use Rattle.dicomdir.specs.From.{from_text, looked_up}
+use Rattle.dd_inputs.specs.From.{from_text, looked_up}
 use Rattle.dd_file_set.specs.Left.{MakesDirectoryLast}
 use Rattle.dicomdir.specs.Lines.{from_in}
 

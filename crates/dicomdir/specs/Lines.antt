@@ -10,10 +10,10 @@ use Rattle.dd_line.specs.Line.{json_name, keep_going_name, link_name, max_bytes_
 use Rattle.dd_line.specs.Line.{source_name, strict_name, uid_name, verb_name}
 use Rattle.dd_line.specs.Requests.{IsOnly}
 use Rattle.dd_line.specs.declared.line.Verb.TheVariants.{Index, Merge, Withdraw, Stage, Publish}
-use Rattle.dicomdir.specs.From.{looked_up, looked_up_list}
+use Rattle.dd_inputs.specs.From.{looked_up, looked_up_list}
 use Rattle.dicomdir.specs.Indexes.{MakesIndex}
 use Rattle.dd_refusals.specs.Styles.{style_by}
-use Rattle.dicomdir.specs.ListedNames.{AreSources}
+use Rattle.dd_inputs.specs.ListedNames.{AreSources}
 use Rattle.dicomdir.specs.Merges.{MakesMerge}
 use Rattle.dicomdir.specs.Names.{choice_by}
 use Rattle.dicomdir.specs.Prints.{PrintsIndex, PrintsMerge}

@@ -1,21 +1,14 @@
 -- What `merge` and `withdraw` make of file-sets.
-use Rattle.std.specs.Prelude.{◌≡◌, ℕ, List, [], ◌∷◌, Option, Result, IfOk, codes, None}
+use Rattle.std.specs.Prelude.{◌≡◌, ℕ, List, [], ◌∷◌, Option, Result, IfOk, None}
 use Rattle.dd_engine.specs.declared.choice.Choice.{Choice}
 use Rattle.dd_engine.specs.declared.merge.Merged.{Merged}
 use Rattle.dd_engine.specs.Merging.{AreOwn, IsMerged, SetListing}
 use Rattle.dd_files.specs.Files.{Held}
-use Rattle.dd_files.specs.Paths.{IsPathIn}
 use Rattle.dd_files.specs.Keeping.{IfSaid}
-use Rattle.dd_file_set.specs.Made.{HasBytes}
 use Rattle.dicomdir.specs.Indexes.{limits_of}
 use Rattle.dicomdir.specs.Origins.{IsMemberPath}
 use Rattle.dd_file_set.specs.Standing.{StandsWhole}
-
--- the directory of the file-set in the folder (PS3.10 section 8.6) has these bytes
-pub record HasDirectory (folder bytes : List ℕ) (files : Option Held) : Type 0 where
-  pub path : List ℕ
-  pub place : IsPathIn folder (codes "DICOMDIR") path
-  pub stands : HasBytes path bytes files
+use Rattle.dd_inspecting.specs.Directories.{HasDirectory}
 
 -- the directories of the file-sets in these folders have these bytes, one for each
 abbrev pub AreDirectories : List (List ℕ) → List (List ℕ) → Option Held → Type 0

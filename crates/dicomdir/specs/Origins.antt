@@ -4,8 +4,8 @@ use Rattle.dd_engine.specs.declared.merge.Pick.{Pick}
 use Rattle.dd_engine.specs.declared.merge_fault.MergeFault.{MergeFault}
 use Rattle.dd_engine.specs.declared.merge_fault.MergeFault.TheVariants as faults
 use Rattle.dd_engine.specs.Saying.{AnswersSaying}
-use Rattle.dd_file_set.specs.declared.refusal.Subject.{Subject}
-use Rattle.dd_file_set.specs.Refusal.{IsSetFile}
+use Rattle.dd_faults.specs.declared.refusal.Subject.{Subject}
+use Rattle.dd_faults.specs.Refusal.{IsSetFile}
 use Rattle.dd_files.specs.Paths.{IsPathIn, id_path}
 use Rattle.dd_version.specs.declared.parts.Parts.{Parts}
 

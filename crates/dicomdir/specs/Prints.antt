@@ -14,7 +14,7 @@ use Rattle.dd_lines.specs.Text.{TakesText}
 use Rattle.dd_messages.specs.Counts.{ending_text, images_text}
 use Rattle.dd_messages.specs.declared.counts.Ending.TheVariants.{Done, Planned}
 use Rattle.dicomdir.specs.Indexes.{Indexes, bytes_of_files, limits_of, status_past}
-use Rattle.dicomdir.specs.ListedNames.{HavePaths}
+use Rattle.dd_inputs.specs.ListedNames.{HavePaths}
 use Rattle.dicomdir.specs.Merges.{AreDirectories}
 use Rattle.dicomdir.specs.Noted.{IsNoted, IsNotedIndex}
 use Rattle.dicomdir.specs.Said.{SaysNotes, SaysSetNotes}

@@ -26,14 +26,14 @@ use Rattle.dd_staged.specs.Sources.{Source}
 use Rattle.dd_staged.specs.Stages.{IsStage}
 use Rattle.dd_messages.specs.Counts.{ending_text, images_text}
 use Rattle.dicomdir.specs.Indexes.{limits_of, status_past}
-use Rattle.dicomdir.specs.ListedNames.{shown_name}
+use Rattle.dd_inputs.specs.ListedNames.{shown_name}
 use Rattle.dicomdir.specs.Noted.{IsNotedIndex}
 use Rattle.dicomdir.specs.Prints.{size_of}
 use Rattle.dicomdir.specs.Said.{SaysNotes}
 use Rattle.dd_version.specs.declared.parts.Parts.{Parts}
 use Rattle.dd_file_set.specs.Standing.{StandsWhole}
-use Rattle.dd_file_set.specs.declared.refusal.ProgramFault.{ProgramFault}
-use Rattle.dd_file_set.specs.declared.refusal.ProgramFault.TheVariants as faults
+use Rattle.dd_faults.specs.declared.refusal.ProgramFault.{ProgramFault}
+use Rattle.dd_faults.specs.declared.refusal.ProgramFault.TheVariants as faults
 use Rattle.dicomdir.specs.Unread.{WasRead, absent_by, answer_of, bad_names_from, listed_from, said_of}
 use Rattle.dd_messages.specs.declared.counts.Ending.TheVariants.{Done}
 use Rattle.dicomdir.specs.declared.piles.Place.{Place}

@@ -3,22 +3,23 @@ use Rattle.std.specs.Prelude.{◌≡◌, ◌⊎◌, ℕ, Bool, false, List, None
 use Rattle.clap.specs.Words.{Row, Text}
 use Rattle.dd_elem.specs.declared.device.Read.{Ghosts as ReadOf}
 use Rattle.dd_elem.specs.declared.device.Write.{Ghosts as WriteOf}
-use Rattle.dd_file_set.specs.declared.refusal.ProgramFault.TheVariants.{Memory}
-use Rattle.dd_file_set.specs.declared.refusal.Refusal.{Refusal}
+use Rattle.dd_faults.specs.declared.refusal.ProgramFault.TheVariants.{Memory}
+use Rattle.dd_faults.specs.declared.refusal.Refusal.{Refusal}
 use Rattle.dd_files.specs.Files.{Held}
 use Rattle.dd_json.specs.declared.value.Style.TheVariants.{Text as Plain}
 use Rattle.dd_line.specs.Line.{words_of}
 use Rattle.dd_line.specs.Requests.{IsRequested, folder_of, id_of, instances_of, keeps_going, read_of, uid_of}
 use Rattle.dd_line.specs.declared.request.Request.{Request}
 use Rattle.dd_line.specs.declared.request.Request.TheVariants.{Check, Index, List as ListSet, Merge, Publish, Stage, Withdraw}
-use Rattle.dicomdir.specs.EmptyPaths.{IsOfEmptyPath, RequestsEmptyPath}
+use Rattle.dd_inputs.specs.EmptyPaths.{IsOfEmptyPath, RequestsEmptyPath}
 use Rattle.dd_messages.specs.FaultLines.{TellsFault}
 use Rattle.dd_refusals.specs.Faults.{TellsRefusal}
-use Rattle.dicomdir.specs.From.{given_list}
+use Rattle.dd_inputs.specs.From.{given_list}
 use Rattle.dicomdir.specs.Grounds.{HasGrounds}
-use Rattle.dicomdir.specs.ListedNames.{FindsSources, list_of}
+use Rattle.dd_inputs.specs.ListedNames.{FindsSources, list_of}
 use Rattle.dicomdir.specs.Names.{choice_by}
-use Rattle.dicomdir.specs.Reasons.{IsDue, IsDueBefore}
+use Rattle.dd_faults.specs.Reasons.{IsDue}
+use Rattle.dd_inputs.specs.Reasons.{IsDueBefore}
 
 -- a line SKIP or NOTE refuses the run
 abbrev pub refuses_notes : Request → Bool

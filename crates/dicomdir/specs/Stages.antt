@@ -3,8 +3,8 @@ use Rattle.std.specs.Prelude.{◌≡◌, ◌↔◌, ◌∷◌, ◌==◌, ℕ, ze
 use Rattle.std.specs.Prelude.{if◌then◌else◌, slice_get}
 use Rattle.std.specs.Fmt.{decimal}
 use Rattle.dd_elem.specs.declared.device.Write.{Ghosts as WriteOf}
-use Rattle.dd_file_set.specs.declared.refusal.ProgramFault.{ProgramFault}
-use Rattle.dd_file_set.specs.declared.refusal.ProgramFault.TheVariants as faults
+use Rattle.dd_faults.specs.declared.refusal.ProgramFault.{ProgramFault}
+use Rattle.dd_faults.specs.declared.refusal.ProgramFault.TheVariants as faults
 use Rattle.dd_files.specs.Files.{Held}
 use Rattle.dd_json.specs.declared.value.Style.{Style}
 use Rattle.dd_json.specs.declared.value.Style.TheVariants.{Text, Json}
@@ -16,8 +16,8 @@ use Rattle.dd_pile.specs.declared.refusal.StageRefusal.TheVariants as refusals
 use Rattle.dd_pile.specs.declared.source.StageSource.{StageSource}
 use Rattle.dd_pile.specs.declared.sum.StageSum.{StageSum}
 use Rattle.dicomdir.specs.FileSupply.{is_one}
-use Rattle.dicomdir.specs.From.{looked_up}
-use Rattle.dicomdir.specs.ListedNames.{HavePaths}
+use Rattle.dd_inputs.specs.From.{looked_up}
+use Rattle.dd_inputs.specs.ListedNames.{HavePaths}
 use Rattle.dd_messages.specs.NoteLines.{said_line}
 use Rattle.serde_json.specs.Data.{Data, string}
 

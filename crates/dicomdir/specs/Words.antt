@@ -9,10 +9,10 @@ use Rattle.dd_line.specs.Requests.{RequestsBadName, keeps_going, read_of, verb_o
 use Rattle.dd_line.specs.declared.line.Verb.TheVariants as verbs
 use Rattle.dd_line.specs.declared.request.Request.{Request}
 use Rattle.dd_line.specs.declared.request.Request.TheVariants.{Check, Index, List as ListSet, Merge, Publish, Stage, Withdraw}
-use Rattle.dicomdir.specs.From.{from_text, looked_up}
+use Rattle.dd_inputs.specs.From.{from_text, looked_up}
 use Rattle.dicomdir.specs.Indexes.{MakesIndex}
 use Rattle.dd_refusals.specs.Styles.{style_by}
-use Rattle.dicomdir.specs.ListedNames.{AreSources, list_of}
+use Rattle.dd_inputs.specs.ListedNames.{AreSources, list_of}
 use Rattle.dicomdir.specs.Merges.{MakesMerge}
 use Rattle.dicomdir.specs.Prints.{PrintsIndex, PrintsMerge}
 use Rattle.dicomdir.specs.Publishes.{MakesPublish, PrintsPublish}

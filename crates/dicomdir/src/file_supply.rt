@@ -8,7 +8,7 @@ ghost use Rattle.dd_files.specs.Files.{Held};
 ghost use Rattle.dd_files.specs.Reasons.{HasCounted, HasFailedReader};
 ghost use Rattle.dd_layout.specs.declared.fault.PlanFault.{PlanFault};
 ghost use Rattle.dicomdir.specs.FileSupply.{IsThere, contents_by, counts_at, is_one};
-ghost use Rattle.dicomdir.specs.ListedNames.{AreRising};
+ghost use Rattle.dd_inputs.specs.ListedNames.{AreRising};
 
 use crate::counted_reader::CountedReader;
 use crate::source_counts::SourceCounts;

@@ -12,11 +12,11 @@ ghost use Rattle.dd_lines.specs.Text.{TakesText};
 ghost use Rattle.dicomdir.specs.FileSupply.{bytes_read};
 ghost use Rattle.dicomdir.specs.Indexes.{CountsPicks, DoneIndexes, Indexes, IsIndexStatus, has_failed, status_past};
 ghost use Rattle.dd_file_set.specs.Left.{MakesDirectoryLast};
-ghost use Rattle.dicomdir.specs.ListedNames.{AreOfSources, HavePaths};
+ghost use Rattle.dd_inputs.specs.ListedNames.{AreOfSources, HavePaths};
 ghost use Rattle.dicomdir.specs.Noted.{IsNotedIndex};
 ghost use Rattle.dicomdir.specs.Prints.{PrintsIndex};
-ghost use Rattle.dd_file_set.specs.Refusal.{IsOfWork};
-ghost use Rattle.dicomdir.specs.Reasons.{IsDue, IsOfEngine};
+ghost use Rattle.dd_faults.specs.Refusal.{IsOfWork};
+ghost use Rattle.dd_faults.specs.Reasons.{IsDue, IsOfEngine};
 ghost use Rattle.dicomdir.specs.Said.{SaysNotes};
 ghost use Rattle.dicomdir.specs.Grounds.{GroundsOfIndex, HaveNoPlan, run_fault};
 
@@ -32,7 +32,8 @@ use crate::sum::{Sum, show_sum};
 use crate::unread::{BadNames, Unread};
 use dd_elem::{Memory, Write};
 use dd_engine::{NotedFault, NotedIndex, PastFailures, index_past_failures, index_with_notes};
-use dd_file_set::{FileSet, ProgramFault, Refusal, Subject};
+use dd_faults::{ProgramFault, Refusal, Subject};
+use dd_file_set::FileSet;
 use dd_files::{Files, Hints, Progress, SOURCE_LIMIT, Step};
 use dd_json::Style;
 use dd_keys::KeyFault;
@@ -124,7 +125,7 @@ fn index_sources<F: Files + Progress + Hints, O: Write>(
     if tell_noted(&past, sources, bad_names, making.style, out).is_err() {
         return Ok(1);
     }
-    *sum = Sum::of(&past, bad_names, sources.len());
+    *sum = Sum::of(&past, bad_names, sources);
     refuse_noted(making.strict, is_noted(&past.noted))?;
     let indexed = &past.noted.indexed;
     keep_dates(making.explains_in_words(), &indexed.plan, files);

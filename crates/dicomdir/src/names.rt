@@ -3,11 +3,11 @@ ghost use Rattle.dd_elem.specs.Uid.{IsUid};
 ghost use Rattle.dd_line.specs.Line.{words_of};
 ghost use Rattle.dd_line.specs.Requests.{RequestsBadName, id_of, instances_of, uid_of};
 ghost use Rattle.dicomdir.specs.Names.{HasBadId, HasBadLabel, HasBadOwnUid, HasBadUid, choice_by};
-ghost use Rattle.dd_file_set.specs.Refusal.{IsBadLine};
+ghost use Rattle.dd_faults.specs.Refusal.{IsBadLine};
 
 use dd_elem::{SetId, Uid};
 use dd_engine::Choice;
-use dd_file_set::ProgramFault;
+use dd_faults::ProgramFault;
 use dd_line::Request;
 use std::alloc::Global;
 

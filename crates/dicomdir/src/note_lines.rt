@@ -7,14 +7,14 @@ ghost use Rattle.dd_line.specs.Line.{words_of};
 ghost use Rattle.dd_lines.specs.Text.{TakesText};
 ghost use Rattle.dd_messages.specs.NoteLines.{left_out_line};
 ghost use Rattle.dicomdir.specs.Noted.{HasNotes};
-ghost use Rattle.dd_file_set.specs.Refusal.{IsOfWork, IsStrict};
+ghost use Rattle.dd_faults.specs.Refusal.{IsOfWork, IsStrict};
 ghost use Rattle.dicomdir.specs.Said.{AreLines, IsLeftOut, IsNames, IsSkip, shown_text};
 
 use crate::shown_path::{ShownFile, ShownPath};
 use crate::unread::Unread;
 use dd_elem::{Uid, Write};
 use dd_engine::{ConflictingFiles, LeftOut, Notes, PatientNames};
-use dd_file_set::{ProgramFault, Refusal};
+use dd_faults::{ProgramFault, Refusal};
 use dd_json::Style;
 use dd_keys::KeyFault;
 use dd_layout::PlanFault;

@@ -1,7 +1,7 @@
 //! The files that images are made of: sources, files of file-sets, or copies in piles.
 ghost use Rattle.std.proofs.Props.{props};
 ghost use Rattle.std.specs.Prelude.{◌≡◌, ◌<◌, All, None, length, map, string_bytes, true};
-ghost use Rattle.dd_file_set.specs.Refusal.{IsPileFile, IsSetFile, IsSource};
+ghost use Rattle.dd_faults.specs.Refusal.{IsPileFile, IsSetFile, IsSource};
 ghost use Rattle.dicomdir.specs.Origins.{IsClaimant, IsMemberPath, IsPathAt};
 ghost use Rattle.dicomdir.specs.Publishes.{IsCopyAt, MayLinkAt, pile_at, place_at, said_at};
 
@@ -9,7 +9,8 @@ use crate::pile_path::PilePath;
 use crate::piles::Place;
 use dd_elem::Memory;
 use dd_engine::{MergeFault, Pick, first_saying};
-use dd_file_set::{IdPath, Lookup, Origins, PathText, Subject};
+use dd_faults::{IdPath, PathText, Subject};
+use dd_file_set::{Lookup, Origins};
 use dd_files::file_path;
 use dd_pile::copy_path;
 use dd_version::Version;

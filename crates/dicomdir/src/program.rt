@@ -1,43 +1,45 @@
 //! The program's run.
-ghost use Rattle.std.specs.Prelude.{◌≡◌, ◌≤◌, ◌<◌, ◌⊎◌, ◌↔◌, ℕ, List, [], IfErr, IfOk, length, true, false};
+ghost use Rattle.std.specs.Prelude.{◌≡◌, ◌≤◌, ◌<◌, ◌⊎◌, ℕ, List, [], IfErr, IfOk, length, true, false};
 ghost use Rattle.dd_elem.specs.Device.{HasFailed};
 ghost use Rattle.dd_files.specs.Keeping.{IfSaid};
 ghost use Rattle.dd_line.specs.Line.{HasBadLimit, HasBadName, IsCheck, IsReading, LacksSources, OnlyReads};
 ghost use Rattle.dd_line.specs.Line.{words_of};
 ghost use Rattle.dd_line.specs.Requests.{id_of, instances_of, is_dry, keeps_going, read_of, uid_of, verb_of};
 ghost use Rattle.dicomdir.specs.DryRun.{HasDryRun, HasKeepGoing};
-ghost use Rattle.dicomdir.specs.EmptyPaths.{HasEmptyPath, RequestsEmptyPath};
-ghost use Rattle.dicomdir.specs.Inspecting.{ChecksSet, IsList, ListsSet, PrintsRequested, comparison_in, first_path};
-ghost use Rattle.dicomdir.specs.Inspecting.{form_in, style_in};
+ghost use Rattle.dd_inputs.specs.EmptyPaths.{HasEmptyPath, RequestsEmptyPath};
+ghost use Rattle.dd_inspecting.specs.Inspecting.{ChecksSet, ListsSet};
+ghost use Rattle.dicomdir.specs.InspectingLines.{IsList, PrintsRequested, comparison_in, first_path};
+ghost use Rattle.dicomdir.specs.InspectingLines.{form_in, style_in};
 ghost use Rattle.dicomdir.specs.Last.{MakesLastLine, MakesLastOf};
 ghost use Rattle.dicomdir.specs.Lines.{IndexSays, IndexesLine, IsIndex, IsMerge, IsWithdraw, MergeSays, MergesLine};
 ghost use Rattle.dicomdir.specs.Lines.{IsPublish, IsStage, PublishSays, PublishesLine, StagesLine, WithdrawSays};
 ghost use Rattle.dicomdir.specs.Lines.{WithdrawsLine};
 ghost use Rattle.dicomdir.specs.Grounds.{GroundsOf};
-ghost use Rattle.dicomdir.specs.ListedNames.{AreOfSources, HavePaths};
+ghost use Rattle.dd_inputs.specs.ListedNames.{AreOfSources, HavePaths};
 ghost use Rattle.dicomdir.specs.Done.{IsDone};
 ghost use Rattle.dicomdir.specs.Names.{choice_by};
-ghost use Rattle.dd_file_set.specs.Refusal.{IsOfWork};
+ghost use Rattle.dd_faults.specs.Refusal.{IsOfWork};
 ghost use Rattle.dd_refusals.specs.Faults.{is_quiet};
-ghost use Rattle.dicomdir.specs.Reasons.{IsDue};
+ghost use Rattle.dd_faults.specs.Reasons.{IsDue};
 ghost use Rattle.dicomdir.specs.Refused.{IsRefused, IsRefusedLine, refuses_notes};
 ghost use Rattle.dicomdir.specs.Words.{IsRequestStatus, IsStatusOf, IsTaken, MakesOf, MakesRequested, SaysOf};
 ghost use Rattle.dicomdir.specs.Words.{SaysRequested, StagesOf, StagesRequested, line_of};
 
-use crate::empty_paths::empty_path;
 use crate::index::run_index;
-use crate::inspecting::{check_of, listing_of, run_check, run_list};
-use crate::line_paths::{LinePaths, from_of, looked_up, paths_of, written_in};
 use crate::making::Making;
 use crate::merging::{run_merge, run_withdraw};
 use crate::names::{Names, names_of};
 use crate::publishing::run_publish;
-use crate::source_paths::{all_sources, bad_names_in, paths_or};
 use crate::staging::{Sources, run_stage};
 use crate::telling::{tell_empty, tell_refusal};
 use dd_elem::Write;
-use dd_file_set::Refusal;
+use dd_faults::Refusal;
 use dd_files::{Files, FoundPaths, Hints, Progress};
+use dd_inputs::{
+    LinePaths, all_sources, bad_names_in, empty_path, from_of, looked_up, paths_of, paths_or,
+    written_in,
+};
+use dd_inspecting::{check_of, listing_of, run_check, run_list};
 use dd_line::{Request, read_request};
 use dd_refusals::{Paths, is_quiet, refuse_line, shows_hints, tell_with_hints};
 use std::alloc::Global;

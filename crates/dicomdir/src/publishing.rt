@@ -15,8 +15,8 @@ ghost use Rattle.dd_line.specs.Line.{words_of};
 ghost use Rattle.dicomdir.specs.Indexes.{limits_of};
 ghost use Rattle.dd_file_set.specs.Left.{MakesDirectoryLast};
 ghost use Rattle.dicomdir.specs.Publishes.{DonePublishes, PrintsPublish, placed_bytes};
-ghost use Rattle.dd_file_set.specs.Refusal.{IsOfWork};
-ghost use Rattle.dicomdir.specs.Reasons.{IsDue, IsOfEngine};
+ghost use Rattle.dd_faults.specs.Refusal.{IsOfWork};
+ghost use Rattle.dd_faults.specs.Reasons.{IsDue, IsOfEngine};
 ghost use Rattle.dicomdir.specs.Grounds.{GroundsOfPiles, PilesHaveNoPlan};
 
 use crate::dates::keep_dates;
@@ -29,7 +29,8 @@ use crate::sum::{Sum, show_sum};
 use crate::unread::{BadNames, UnreadStaged};
 use dd_elem::Write;
 use dd_engine::{FoundSources, NotedFault, PastFailures, publish_engine};
-use dd_file_set::{FileSet, ProgramFault, Refusal};
+use dd_faults::{ProgramFault, Refusal};
+use dd_file_set::FileSet;
 use dd_files::{Files, Hints, Progress};
 use dd_json::Style;
 use dd_layout::Limits;
@@ -111,7 +112,7 @@ fn publish_piles<F: Files + Progress + Hints, O: Write>(
     if tell_noted(&past, &names, bad_names, making.style, out).is_err() {
         return Ok(1);
     }
-    *sum = Sum::of(&past, bad_names, names.len());
+    *sum = Sum::of(&past, bad_names, &names);
     refuse_noted(making.strict, is_noted(&past.noted))?;
     let indexed = &past.noted.indexed;
     keep_dates(making.explains_in_words(), &indexed.plan, files);

@@ -4,7 +4,7 @@ ghost use Rattle.dd_refusals.specs.Faults.{path_at};
 ghost use Rattle.dicomdir.specs.Said.{ShowsMember, shown_text};
 
 use dd_engine::Pick;
-use dd_file_set::{IdPath, PathText};
+use dd_faults::{IdPath, PathText};
 use dd_files::is_joined_by_slash;
 
 /// The path of a source, or of a file in a file-set.

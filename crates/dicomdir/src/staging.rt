@@ -1,31 +1,31 @@
 //! The command `stage`: makes a pile of sources.
-ghost use Rattle.std.specs.Prelude.{◌≡◌, ◌≢◌, ◌<◌, ◌≤◌, ◌⊎◌, ℕ, List, [], Err, IfErr, IfOk, IsErr, IsOk, OnOk, Some};
+ghost use Rattle.std.specs.Prelude.{◌≡◌, ◌≢◌, ◌<◌, ◌⊎◌, ℕ, List, [], Err, IfErr, IfOk, IsErr, IsOk, OnOk, Some};
 ghost use Rattle.std.specs.Prelude.{false, length, map, slice_get, string_bytes, true};
 ghost use Rattle.dd_elem.specs.Device.{HasFailed};
 ghost use Rattle.dd_files.specs.Keeping.{IfSaid};
 ghost use Rattle.dd_line.specs.Line.{words_of};
 ghost use Rattle.dd_lines.specs.Text.{TakesText};
 ghost use Rattle.dd_pile.specs.Refusals.{IsDueTo, Names};
-ghost use Rattle.dicomdir.specs.From.{from_text, looked_up};
+ghost use Rattle.dd_inputs.specs.From.{from_text, looked_up};
 ghost use Rattle.dd_refusals.specs.Styles.{style_by};
 ghost use Rattle.dicomdir.specs.Last.{StagesListLast};
-ghost use Rattle.dd_file_set.specs.Refusal.{IsOfWork};
-ghost use Rattle.dicomdir.specs.Reasons.{IsDue};
+ghost use Rattle.dd_faults.specs.Refusal.{IsOfWork};
+ghost use Rattle.dd_faults.specs.Reasons.{IsDue};
 ghost use Rattle.dicomdir.specs.FileSupply.{is_one};
 ghost use Rattle.dicomdir.specs.Indexes.{IsIndexStatus};
-ghost use Rattle.dicomdir.specs.ListedNames.{AreRising, HavePaths};
+ghost use Rattle.dd_inputs.specs.ListedNames.{AreRising, HavePaths};
 ghost use Rattle.dd_pile.specs.declared.source.StageSource.{StageSource};
 ghost use Rattle.dicomdir.specs.Stages.{MakesNamed, Stages, fault_of, staged_text, staged_words, status_staged};
 ghost use Rattle.dicomdir.specs.Grounds.{GroundsOfStage, HasNoList};
 
 use crate::file_supply::contains;
-use crate::line_paths::looked_up;
 use crate::making::status_of;
 use crate::pile_path::{PileFolder, PilePath};
 use crate::staged_json;
 use dd_elem::{Memory, Write};
-use dd_file_set::{PathText, ProgramFault, Refusal, Subject};
+use dd_faults::{PathText, ProgramFault, Refusal, Subject};
 use dd_files::{Files, Progress};
+use dd_inputs::looked_up;
 use dd_json::Style;
 use dd_line::StageRequest;
 use dd_lines::print_line;

@@ -6,16 +6,22 @@ ghost use Rattle.dd_engine.specs.declared.choice.Choice.{Choice};
 ghost use Rattle.dd_layout.specs.Limits.{Limits};
 ghost use Rattle.dicomdir.specs.Sum.{AddsUp, CountsSources};
 
+use crate::skipped_classes::{SkippedClasses, show_classes};
 use crate::unread::{BadNames, Unread};
 use dd_engine::PastFailures;
-use dd_file_set::ProgramFault;
+use dd_faults::ProgramFault;
 use dd_files::{Files, Hints};
+use dd_grammar::SetFault;
 use dd_json::Style;
 use dd_keys::KeyFault;
+use dd_part10::FileFault;
 use itoa::Buffer;
 
-/// What to do first about a source that is skipped for a fault, by its number.
+/// What to do first about a source that is skipped for a fault, by its number and that of its cause.
 const FIRST_STEPS: [&str; ROWS] = [
+    "31 File 21: no DICOM file; where dcmdump IN can read it, dcmconv IN OUT makes it one",
+    "31 File 25: dcmconv +te IN OUT writes such a file anew, or for JPEG dcmdjpeg IN OUT",
+    "31 File 27 Set 1: the file is cut: fetch it anew",
     "31: dcmconv IN OUT writes such a file anew, where dcmdump IN can read it",
     "32: make their file-set with another program; a DICOMDIR is no image",
     "33: mend it where it was made: a record needs this key",
@@ -24,12 +30,16 @@ const FIRST_STEPS: [&str; ROWS] = [
     "36: mend it where it was made: this key has to be a value",
     "37: dcmconv IN OUT writes such a file anew",
     "39: a file-set has no file of more than 4294967295 bytes",
+    "92: each name of a list ends in a zero byte, not a line feed: use find -print0, or tr '\\n' '\\0'",
     "92: is the name right, and may you read it? ls -lb shows it",
     "93: try to copy it by cp: mend the disc where that fails too",
     "99: give the file a name that is UTF-8",
 ];
 
-const ROWS: usize = 11;
+const ROWS: usize = 15;
+
+/// The row of a source of a class that is not taken.
+const OTHER_CLASS: usize = 4;
 
 /// The most first steps that are shown.
 const MOST: usize = 5;
@@ -48,6 +58,8 @@ pub(crate) struct Sum {
     pub(crate) repeated: usize,
     /// For which of the first steps some source was skipped.
     rows: [bool; ROWS],
+    /// How many sources were skipped for which class.
+    classes: SkippedClasses,
 }
 
 impl Sum {
@@ -59,36 +71,38 @@ impl Sum {
             left_out: 0,
             repeated: 0,
             rows: [false; ROWS],
+            classes: SkippedClasses::new(),
         }
     }
 
-    pub(crate) fn of(past: &PastFailures, bad_names: BadNames<'_>, sources: usize) -> Sum
-        ensures counts { CountsSources past.now.noted sources result }
+    pub(crate) fn of(past: &PastFailures, bad_names: BadNames<'_>, sources: &[String]) -> Sum
+        ensures counts { CountsSources past.now.noted (length sources.now) result }
         ensures adds { (choice : Choice) (limits : Limits) (answers : List Answer)
-            → length answers ≡ sources → NotesIndex choice limits answers (Ok past.now.noted)
+            → length answers ≡ length sources.now → NotesIndex choice limits answers (Ok past.now.noted)
             → AddsUp result }
     {
         let noted = &past.noted;
         let kept = noted.indexed.plan.versions().len();
         let skipped = noted.indexed.skipped.len();
         let left_out = noted.notes.left_out.len();
-        let others = sources.saturating_sub(kept).saturating_sub(skipped);
+        let others = sources.len().saturating_sub(kept).saturating_sub(skipped);
         Sum {
-            sources,
+            sources: sources.len(),
             kept,
             skipped,
             left_out,
             repeated: others.saturating_sub(left_out),
-            rows: rows_of(&noted.indexed.skipped, Unread::of(past, bad_names)),
+            rows: rows_of(&noted.indexed.skipped, Unread::of(past, bad_names), sources),
+            classes: SkippedClasses::of(&noted.indexed.skipped),
         }
     }
 }
 
-fn rows_of(skipped: &[(usize, KeyFault)], unread: Unread<'_>) -> [bool; ROWS] {
+fn rows_of(skipped: &[(usize, KeyFault)], unread: Unread<'_>, sources: &[String]) -> [bool; ROWS] {
     let mut rows = [false; ROWS];
     for (at, fault) in skipped {
         let row = match fault {
-            KeyFault::Read => row_of_unread(&unread.fault_of(*at)),
+            KeyFault::Read => row_of_unread(&unread.fault_of(*at), sources.get(*at)),
             fault => row_of(fault),
         };
         if let Some(row) = rows.get_mut(row) {
@@ -98,12 +112,13 @@ fn rows_of(skipped: &[(usize, KeyFault)], unread: Unread<'_>) -> [bool; ROWS] {
     rows
 }
 
-/// Gives the row of a source that was not read.
-fn row_of_unread(fault: &ProgramFault) -> usize {
-    match fault {
-        ProgramFault::Absent => 8,
-        ProgramFault::Unread => 9,
-        ProgramFault::BadName(_) => 10,
+/// Gives the row of a source of this name that was not read.
+fn row_of_unread(fault: &ProgramFault, name: Option<&String>) -> usize {
+    match (fault, name) {
+        (ProgramFault::Absent, Some(name)) if name.contains('\n') => 11,
+        (ProgramFault::Absent, _) => 12,
+        (ProgramFault::Unread, _) => 13,
+        (ProgramFault::BadName(_), _) => 14,
         _ => ROWS,
     }
 }
@@ -111,14 +126,17 @@ fn row_of_unread(fault: &ProgramFault) -> usize {
 /// Gives the row of the fault among the first steps. A source that was read is not skipped for the last two faults.
 fn row_of(fault: &KeyFault) -> usize {
     match fault {
-        KeyFault::File(_) => 0,
-        KeyFault::NotImage(_) => 1,
-        KeyFault::MissingKey(_) => 2,
-        KeyFault::BadKeyUid(_) => 3,
-        KeyFault::KeyTooLong(_) => 4,
-        KeyFault::KeyIsSequence(_) => 5,
-        KeyFault::MetaMismatch(_) => 6,
-        KeyFault::FileTooLong => 7,
+        KeyFault::File(FileFault::NotPart10) => 0,
+        KeyFault::File(FileFault::OtherSyntax(_)) => 1,
+        KeyFault::File(FileFault::Set(SetFault::Truncated)) => 2,
+        KeyFault::File(_) => 3,
+        KeyFault::NotImage(_) => OTHER_CLASS,
+        KeyFault::MissingKey(_) => 5,
+        KeyFault::BadKeyUid(_) => 6,
+        KeyFault::KeyTooLong(_) => 7,
+        KeyFault::KeyIsSequence(_) => 8,
+        KeyFault::MetaMismatch(_) => 9,
+        KeyFault::FileTooLong => 10,
         KeyFault::Read | KeyFault::Memory => ROWS,
     }
 }
@@ -130,7 +148,7 @@ pub(crate) fn show_sum<F: Files + Hints>(sum: &Sum, style: Style, files: &mut F)
     files.show_kept();
     match style {
         Style::Text => {
-            show_first_steps(&sum.rows, files);
+            show_first_steps(sum, files);
             show_counts(sum, files);
         }
         Style::Json => show_counts_json(sum, files),
@@ -186,12 +204,15 @@ pub(crate) fn word_of_none(kept: usize) -> &'static str {
     }
 }
 
-fn show_first_steps<F: Files + Hints>(rows: &[bool; ROWS], files: &mut F)
+fn show_first_steps<F: Files + Hints>(sum: &Sum, files: &mut F)
     ensures kept { F.held files.new ≡ F.held files.old }
 {
     let mut left = MOST;
-    for (step, is_met) in FIRST_STEPS.iter().zip(rows.iter()) {
+    for (row, (step, is_met)) in FIRST_STEPS.iter().zip(sum.rows.iter()).enumerate() {
         if left > 0 && *is_met {
+            if row == OTHER_CLASS {
+                show_classes(&sum.classes, files);
+            }
             files.show_line(&["  help: ", step]);
             left -= 1;
         }

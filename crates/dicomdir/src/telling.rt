@@ -1,14 +1,14 @@
 //! What a person is told where a run is refused.
 ghost use Rattle.std.specs.Prelude.{◌≡◌, length};
-ghost use Rattle.dd_file_set.specs.Refusal.{IsOfWork};
+ghost use Rattle.dd_faults.specs.Refusal.{IsOfWork};
 ghost use Rattle.dd_line.specs.Line.{words_of};
 ghost use Rattle.dd_refusals.specs.Faults.{TellsRefusal};
-ghost use Rattle.dicomdir.specs.From.{given_list};
+ghost use Rattle.dd_inputs.specs.From.{given_list};
 
-use crate::line_paths::{LinePaths, as_given, list_of};
 use dd_elem::Write;
-use dd_file_set::Refusal;
+use dd_faults::Refusal;
 use dd_files::{Files, Hints, Progress};
+use dd_inputs::{LinePaths, from_of, list_of};
 use dd_line::Request;
 use dd_refusals::{Paths, tell_with_hints};
 
@@ -59,4 +59,18 @@ pub(crate) fn tell_empty<F: Hints, E: Write>(
         unstored: "",
     };
     tell_with_hints(refusal, request, paths, files, err)
+}
+
+/// Gives a path of the new file-set as the line spells it: without the folder in which it was looked up, which is `.`
+/// itself. All paths of a pile are as the line spells them.
+fn as_given<'a>(request: &Request, path: &'a str) -> &'a str {
+    let from = from_of(request).trim_end_matches('/');
+    if matches!(request, Request::Stage(_)) || from.is_empty() {
+        return path;
+    }
+    if path == from {
+        return ".";
+    }
+    let inside = path.strip_prefix(from).unwrap_or("");
+    inside.strip_prefix('/').unwrap_or(path)
 }

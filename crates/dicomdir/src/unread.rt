@@ -4,7 +4,7 @@ ghost use Rattle.dicomdir.specs.Unread.{absent_by, bad_name_by};
 
 use dd_elem::Memory;
 use dd_engine::PastFailures;
-use dd_file_set::ProgramFault;
+use dd_faults::ProgramFault;
 use dd_staged::SourceFault;
 use dd_version::Version;
 use std::alloc::Global;

@@ -35,7 +35,7 @@ use Rattle.dicomdir_laws.specs.Headline.{AreGivenFolders, LeaveOneDirectory, Lea
 use Rattle.dicomdir_laws.specs.Headline.{Lists, Makes, Names, OneFileSays, OneListSays, OneSetSays, SayTheSame}
 use Rattle.dicomdir_laws.specs.Headline.{SaysVersion, Withdraws, folder_for}
 use Rattle.dicomdir.specs.Lines.{IndexesRows, MergesRows, PublishesRows, WithdrawsRows, choice_of}
-use Rattle.dicomdir.specs.ListedNames.{AreSources, parts}
+use Rattle.dd_inputs.specs.ListedNames.{AreSources, parts}
 use Rattle.dd_file_set.specs.Made.{RealisesPlan, SaysPlan}
 use Rattle.dicomdir.specs.Publishes.{answers_in}
 use Rattle.dd_file_set.specs.Standing.{StandsWhole}

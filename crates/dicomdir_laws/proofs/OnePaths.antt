@@ -3,7 +3,7 @@ use Rattle.std.proofs.Common.{◌≡◌, ◌∙◌, ℕ, List, Some, ap, sym}
 use Rattle.std.proofs.lemmas.Option.{same_Some}
 use Rattle.dd_files.specs.Files.{Held}
 use Rattle.dd_files.proofs.OnePaths.{one_path}
-use Rattle.dicomdir.specs.Merges.{HasDirectory}
+use Rattle.dd_inspecting.specs.Directories.{HasDirectory}
 
 pub one_directory : (folder bytes other : List ℕ) (held : Held) → HasDirectory folder bytes (Some held)
     → HasDirectory folder other (Some held) → bytes ≡ other

@@ -27,7 +27,7 @@ use Rattle.dicomdir_laws.proofs.SaidByLists.{one_list_of, said_of_answer}
 use Rattle.dicomdir_laws.specs.Headline.{IsPileOf, LeaveOneDirectory, Makes, OneFileSays, PublishesSources}
 use Rattle.dicomdir_laws.specs.Headline.{SayTheSame, SaysVersion, paths_read}
 use Rattle.dicomdir.specs.FileSupply.{is_one}
-use Rattle.dicomdir.specs.From.{looked_up}
+use Rattle.dd_inputs.specs.From.{looked_up}
 use Rattle.dicomdir.specs.Indexes.{most_of_source}
 use Rattle.dicomdir.specs.Lines.{choice_of}
 use Rattle.dicomdir.specs.Unread.{Staged, answer_of}

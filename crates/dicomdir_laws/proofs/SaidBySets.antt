@@ -15,7 +15,8 @@ use Rattle.dd_files.specs.Files.{Held}
 use Rattle.dd_version.specs.declared.parts.Parts.{Parts}
 use Rattle.dicomdir_laws.proofs.OnePaths.{one_directory}
 use Rattle.dicomdir_laws.specs.Headline.{Lists, Names, OneSetSays}
-use Rattle.dicomdir.specs.Merges.{AreDirectories, HasDirectory}
+use Rattle.dicomdir.specs.Merges.{AreDirectories}
+use Rattle.dd_inspecting.specs.Directories.{HasDirectory}
 
 -- ---- a set lists one thing
 

@@ -38,7 +38,7 @@ use Rattle.dicomdir_laws.proofs.OnePaths.{one_directory}
 use Rattle.dicomdir_laws.specs.Headline.{AreGivenFolders, LeaveOneDirectory, LeavesDirectory, Lists, Makes, MergesCopies}
 use Rattle.dicomdir_laws.specs.Headline.{Names, OneSetSays, folder_for}
 use Rattle.dicomdir.specs.Lines.{choice_of}
-use Rattle.dicomdir.specs.Merges.{HasDirectory}
+use Rattle.dd_inspecting.specs.Directories.{HasDirectory}
 
 -- ---- a catalogue in harmony
 

@@ -24,11 +24,11 @@ use Rattle.dd_staged.specs.Sources.{Source, has_copy}
 use Rattle.dd_staged.specs.Stages.{IsStage}
 use Rattle.dd_version.specs.declared.parts.Parts.{Parts}
 use Rattle.dicomdir.specs.Done.{IsDone}
-use Rattle.dicomdir.specs.From.{looked_up}
+use Rattle.dd_inputs.specs.From.{looked_up}
 use Rattle.dicomdir.specs.Indexes.{most_of_source}
 use Rattle.dicomdir.specs.Lines.{IndexesRows, MergesRows, PublishesRows, WithdrawsRows, choice_of, from_in, list_in}
-use Rattle.dicomdir.specs.ListedNames.{AreSources}
-use Rattle.dicomdir.specs.Merges.{HasDirectory}
+use Rattle.dd_inputs.specs.ListedNames.{AreSources}
+use Rattle.dd_inspecting.specs.Directories.{HasDirectory}
 use Rattle.dicomdir.specs.Stages.{MakesNamed}
 
 -- ---- what the files say

@@ -45,7 +45,8 @@ fn put_others(alloc: Global, files: &mut MemFiles) -> Result<(), Fail> {
 }
 
 /// Puts lists of names. The names of two are there, and the second list is without its last zero byte. Of one a name is
-/// empty, of one a name is not UTF-8, and one has no name. One names a file that is not there, and one names two sets.
+/// empty, of one a name is not UTF-8, and one has no name. One names a file that is not there, one names two sets, and
+/// one has lines.
 fn put_lists(files: &mut MemFiles) -> Result<(), Fail> {
     files.put("two", b"a.dcm\0d.dcm\0")?;
     files.put("open", b"d.dcm\0a.dcm")?;
@@ -54,6 +55,7 @@ fn put_lists(files: &mut MemFiles) -> Result<(), Fail> {
     files.put("void", b"")?;
     files.put("gone", b"a.dcm\0none.dcm\0")?;
     files.put("sets", b"d1\0d2\0")?;
+    files.put("lines", b"a.dcm\nd.dcm")?;
     Ok(())
 }
 

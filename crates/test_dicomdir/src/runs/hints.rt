@@ -12,15 +12,15 @@ full=set: - - dicomdir index full a.dcm --verbose --quiet > 1 [] [FAULT full/DIC
 help: take a new folder: OUT has a file-set, or files of an earlier run|] kept
 full=set: - - dicomdir index full a.dcm --quiet > 1 [] [FAULT full/DICOMDIR: 94 Create|] kept
 full=set: - - dicomdir index out none.dcm --verbose > 1 [] [FAULT none.dcm: 92 Absent|  \
-help: is the name right, and may you read it? ls -lb 'none.dcm'|] kept
+help: --keep-going skips it; is the name right, and may you read it? ls -lb 'none.dcm'|] kept
 full=set: - - dicomdir index out it's --verbose > 1 [] [FAULT it's: 92 Absent|  \
-help: is the name right, and may you read it? ls -lb 'it'\\''s'|] kept
+help: --keep-going skips it; is the name right, and may you read it? ls -lb 'it'\\''s'|] kept
 full=set: - - dicomdir index --verbose -- out -l > 1 [] [FAULT -l: 92 Absent|  \
-help: is the name right, and may you read it? ls -lb './-l'|] kept
+help: --keep-going skips it; is the name right, and may you read it? ls -lb './-l'|] kept
 full=set: - - dicomdir index out \u{7}a --verbose > 1 [] [FAULT ?a: 92 Absent|  \
-help: is the name right, and may you read it? ls -lb FOLDER|] kept
+help: --keep-going skips it; is the name right, and may you read it? ls -lb FOLDER|] kept
 unread a.dcm: - - dicomdir index out a.dcm --verbose > 1 [] [FAULT a.dcm: 93 Unread|  \
-help: try to copy it by cp: mend the disc where that fails too|] kept
+help: --keep-going skips it; else copy it by cp, and mend the disc where that fails too|] kept
 full=set: - - dicomdir index '' a.dcm --verbose > 1 [] [FAULT : 95 Folder|  \
 help: the name is empty: is a variable of the command line not set?|] kept
 full=set: - - dicomdir merge out '' --verbose > 1 [] [FAULT : 92 Absent|  \
@@ -29,6 +29,12 @@ full=set: - - dicomdir index out a.dcm --uid 1.02 --verbose > 2 [] [FAULT -: 71 
 help: a UID has up to 64 digits and dots, and no number such as 02|] kept
 full=set: - - dicomdir index out a.dcm --id a --verbose > 2 [] [FAULT -: 72 BadSetId|  \
 help: an ID has up to 16 characters of A to Z, 0 to 9 and _|] kept
+full=set: - - dicomdir withdraw o full 1.2 1.02 --verbose > 2 [] [FAULT -: 71 BadUid|  \
+help: a UID has up to 64 digits and dots, and no number such as 02|] kept
+full=set: - - dicomdir withdraw o full 1.2 IM000001 --verbose > 2 [] [FAULT -: 71 BadUid|  \
+help: the UID of an image is its (0008,0018), which list --long shows: digits and dots|] kept
+full=set: - - dicomdir withdraw o full 1.2/3 --verbose > 2 [] [FAULT -: 71 BadUid|  \
+help: the UID of an image is its (0008,0018), which list --long shows: digits and dots|] kept
 full=set: - - dicomdir index out a.dcm --max-bytes 875 --verbose > 1 [] [FAULT -: 43 TooLarge|  \
 help: give a greater --max-bytes, or make two file-sets|] kept
 full=set: - - dicomdir index out d.dcm n.dcm --verbose > \
@@ -41,7 +47,13 @@ full=set: - - dicomdir index out --files0-from gap --verbose > 1 [] [FAULT gap: 
 help: end each name by a zero byte, as find -print0 does|] kept
 full=set: - - dicomdir index out --files0-from no --verbose > 1 [] [FAULT no: 92 Absent|  \
 help: is the name right, and may you read it? ls -lb 'no'|] kept
+full=set: - - dicomdir index out --files0-from lines --verbose > 1 [] [FAULT a.dcm?d.dcm: 92 Absent|  \
+help: each name of a list ends in a zero byte, not a line feed: use find -print0, or tr '\\n' '\\0'|] kept
 full=set: - - dicomdir merge o full nowhere --verbose > 1 [] [FAULT nowhere/DICOMDIR: 92 Absent|  \
+help: no folder is there: is the name right, and is the disc mounted? ls -lb 'nowhere'|] kept
+full=set: - - dicomdir list full/DICOMDIR --verbose > 1 [] [FAULT full/DICOMDIR/DICOMDIR: 92 Absent|  \
+help: SET is the folder that has the DICOMDIR, not the DICOMDIR itself|] kept
+full=set: - - dicomdir check full/dicomdir.;1 --verbose > 1 [] [FAULT full/dicomdir.;1/DICOMDIR: 92 Absent|  \
 help: SET is the folder that has the DICOMDIR, not the DICOMDIR itself|] kept
 d1/DICOMDIR=first: - - dicomdir merge o d1 --verbose > \
 1 [] [FAULT d1/PT000001/ST000001/SE000001/IM000001: 92 Absent|  \

@@ -17,9 +17,10 @@ d/DICOMDIR=v3,358,00000000,402,2020: - - dicomdir list --json d > \
 {`line`:`RECORDS`,`records`:1,`unreached`:4}|] [] kept
 d/DICOMDIR=v3: - - dicomdir list --json d > \
 0 [{`line`:`RECORD`,`offset`:320,`level`:0,`type`:`PATIENT`,`in_use`:true,`key`:`P1`}|\
-{`line`:`RECORD`,`offset`:412,`level`:1,`type`:`STUDY`,`in_use`:true,`key`:`1.2.3`}|\
-{`line`:`RECORD`,`offset`:546,`level`:2,`type`:`SERIES`,`in_use`:true,`key`:`1.2.3.4`}|\
-{`line`:`RECORD`,`offset`:646,`level`:3,`type`:`IMAGE`,`in_use`:false,`file`:`IMAGES\\\\IM1`,`key`:`IMAGES\\\\IM1`}|\
+{`line`:`RECORD`,`offset`:412,`level`:1,`type`:`STUDY`,`in_use`:true,`key`:`1.2.3`,`uid`:`1.2.3`}|\
+{`line`:`RECORD`,`offset`:546,`level`:2,`type`:`SERIES`,`in_use`:true,`key`:`1.2.3.4`,`uid`:`1.2.3.4`}|\
+{`line`:`RECORD`,`offset`:646,`level`:3,`type`:`IMAGE`,`in_use`:false,`file`:`IMAGES\\\\IM1`,`key`:`IMAGES\\\\IM1`,\
+`uid`:`1.2.3.4.5`}|\
 {`line`:`RECORD`,`offset`:818,`level`:3,`type`:`SR DOCUMENT`,`in_use`:true,`file`:`IMAGES\\\\SR1`,\
 `key`:`IMAGES\\\\SR1`}|{`line`:`RECORDS`,`records`:5,`unreached`:0}|] [] kept
 index d a.dcm --id DISC1 --uid 2.25.7; withdraw e d 1.2.3.4.5 --uid 2.25.8 --id DISC2: \
@@ -42,7 +43,7 @@ d/DICOMDIR=note.txt: - - dicomdir check d --json > \
 d/DICOMDIR=note.txt: 9 - dicomdir check d --json > 1 [{`line`:`] [] kept
 d/DICOMDIR=empty: - - dicomdir list n`o*where --json > \
 1 [] [{`line`:`FAULT`,`path`:`n\\`o\\nwhere/DICOMDIR`,`fault`:{`number`:92,`name`:`Absent`,`words`:`92 Absent`},\
-`help`:`SET is the folder that has the DICOMDIR, not the DICOMDIR itself`}|] kept
+`help`:`no folder is there: is the name right, and is the disc mounted? ls -lb FOLDER`}|] kept
 d/DICOMDIR=part.dcm: - - dicomdir list d --json > \
 1 [] [{`line`:`FAULT`,`path`:`d`,`fault`:{`number`:51,`name`:`File`,`words`:`51 File 27 Set 1 Truncated`,\
 `cause`:{`number`:27,`name`:`Set`}},`help`:`the DICOMDIR can't be followed: index the images anew`}|] kept
@@ -53,7 +54,7 @@ d/DICOMDIR=empty: - - dicomdir check nowhere --json --quiet > \
 1 [] [{`line`:`FAULT`,`path`:`nowhere/DICOMDIR`,`fault`:{`number`:92,`name`:`Absent`,`words`:`92 Absent`}}|] kept
 d/DICOMDIR=empty: - - dicomdir check nowhere --json --quiet --verbose > \
 1 [] [{`line`:`FAULT`,`path`:`nowhere/DICOMDIR`,`fault`:{`number`:92,`name`:`Absent`,`words`:`92 Absent`},\
-`help`:`SET is the folder that has the DICOMDIR, not the DICOMDIR itself`}|] kept";
+`help`:`no folder is there: is the name right, and is the disc mounted? ls -lb 'nowhere'`}|] kept";
 
 fn ran_json(alloc: Global, question: &str) -> Result<String, Fail> {
     let question = question.replace(alloc, '`', "\"")?;

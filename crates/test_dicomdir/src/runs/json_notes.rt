@@ -16,7 +16,7 @@ full=set: - - dicomdir index out note.txt a.dcm d.dcm c.dcm --uid 2.25.0 --json 
 {'line':'DONE','instances':2,'bytes':1130}|] [] changed
 full=set: - - dicomdir index out b.dcm part.dcm --json --dry-run --uid 2.25.0 > \
 0 [{'line':'SKIP','path':'b.dcm','fault':{'number':32,'name':'NotImage',\
-'words':'32 NotImage 1.2.840.10008.5.1.4.1.1.88.11'}}|\
+'words':'32 NotImage 1.2.840.10008.5.1.4.1.1.88.11','class_name':'Basic Text SR Storage'}}|\
 {'line':'SKIP','path':'part.dcm','fault':{'number':31,'name':'File','words':'31 File 27 Set 1 Truncated',\
 'cause':{'number':27,'name':'Set'}}}|{'line':'PLAN','instances':0,'bytes':320,'image_bytes':0}|] [] kept
 full=set: - - dicomdir index -k out none.dcm a.dcm --uid 2.25.0 --dry-run --json > \

@@ -47,10 +47,10 @@ d/DICOMDIR=empty: - 0 dicomdir list d > 0 [0 records, 0 unreached|] [] kept";
 const LONG_LISTS: &str = "\
 d/DICOMDIR=first: - - dicomdir list --long d > 0 [FILE-SET - 2.25.0|320 PATIENT P1 | DOE^JOHN\
 |  404 STUDY 1.2.3 | 20240115 | 101500 | -|    530 SERIES 1.2.3.4 | CT | 1\
-|      622 IMAGE PT000001\\ST000001\\SE000001\\IM000001 | 1|4 records, 0 unreached|] [] kept
+|      622 IMAGE PT000001\\ST000001\\SE000001\\IM000001 | 1 | 1.2.3.4.5|4 records, 0 unreached|] [] kept
 d/DICOMDIR=v3: - - dicomdir list d --long > 0 [FILE-SET - 2.25.0|320 PATIENT P1 | DOE^JOHN\
 |  412 STUDY 1.2.3 | 20240115 | 101500 | -|    546 SERIES 1.2.3.4 | CT | 1\
-|      646 IMAGE IMAGES\\IM1 inactive | 1|      818 SR DOCUMENT IMAGES\\SR1|5 records, 0 unreached|] [] kept
+|      646 IMAGE IMAGES\\IM1 inactive | 1 | 1.2.3.4.5|      818 SR DOCUMENT IMAGES\\SR1|5 records, 0 unreached|] [] kept
 d/DICOMDIR=empty: - - dicomdir list --long d > 0 [FILE-SET - 2.25.0|0 records, 0 unreached|] [] kept
 d/DICOMDIR=empty,199,'7: - - dicomdir list --long d > 0 [FILE-SET - 2.25.7|0 records, 0 unreached|] [] kept
 d/DICOMDIR=empty,194,000000000000: - - dicomdir list --long d > \

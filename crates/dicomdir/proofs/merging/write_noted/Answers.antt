@@ -7,11 +7,12 @@ use Rattle.dicomdir.proofs.EngineMade.{once_done}
 use Rattle.dicomdir.proofs.MadeGrounds.{noted_by, noted_grounds, strict_grounds}
 use Rattle.dicomdir.proofs.PrintedLines.{said_both, unnoted, unwithdrawn}
 use Rattle.dicomdir.proofs.SaidLines.{on_ok_gives}
-use Rattle.dicomdir.specs.Grounds.{GroundsOfMaking, HasUnfitImage}
+use Rattle.dd_faults.specs.Grounds.{GroundsOfMaking}
+use Rattle.dicomdir.specs.Grounds.{HasUnfitImage}
 use Rattle.dicomdir.specs.Noted.{IsNoted}
 use Rattle.dicomdir.specs.Origins.{IsMemberPath}
 use Rattle.dicomdir.specs.Prints.{last_line}
-use Rattle.dd_file_set.specs.declared.refusal.Refusal.{Refusal}
+use Rattle.dd_faults.specs.declared.refusal.Refusal.{Refusal}
 use Rattle.dicomdir.proofs.merging.write_noted.Goals as goal
 
 pub returns-clause-made : goal.returns-clause-made

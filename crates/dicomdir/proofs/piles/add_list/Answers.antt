@@ -4,7 +4,7 @@ use Rattle.std.proofs.Common.{subst, sym}
 use Rattle.std.proofs.lemmas.List.{length-map, length_push, map_push}
 use Rattle.std.specs.Vec.Iter.{into_iter_items}
 use Rattle.dd_staged.specs.Sources.{source_view}
-use Rattle.dicomdir.proofs.HavingPaths.{none_of}
+use Rattle.dd_inputs.proofs.HavingPaths.{none_of}
 use Rattle.dicomdir.proofs.Piling.{names_count, piled_start}
 use Rattle.dicomdir.specs.Publishes.{IsPiled}
 use Rattle.dicomdir.proofs.piles.add_list.Goals as goal

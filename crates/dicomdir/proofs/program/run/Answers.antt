@@ -5,8 +5,9 @@ use Rattle.dd_line.specs.Line.{HasBadLimit, HasBadName, IsCheck, IsReading, Lack
 use Rattle.dd_line.specs.Requests.{IsRequested}
 use Rattle.dd_line.proofs.RequestLemmas.{given_bad, requested_bad, requested_check, requested_reads}
 use Rattle.dicomdir.specs.DryRun.{HasDryRun, HasKeepGoing}
-use Rattle.dicomdir.specs.EmptyPaths.{HasEmptyPath}
-use Rattle.dicomdir.specs.Inspecting.{ChecksSet, IsList, ListsSet, comparison_in, first_path, form_in, style_in}
+use Rattle.dd_inputs.specs.EmptyPaths.{HasEmptyPath}
+use Rattle.dd_inspecting.specs.Inspecting.{ChecksSet, ListsSet}
+use Rattle.dicomdir.specs.InspectingLines.{IsList, comparison_in, first_path, form_in, style_in}
 use Rattle.dicomdir.specs.Last.{MakesLastLine}
 use Rattle.dicomdir.specs.Lines.{IndexesLine, IsIndex, IsMerge, IsPublish, IsStage, IsWithdraw, MergesLine}
 use Rattle.dicomdir.specs.Lines.{IndexSays, MergeSays, PublishSays, PublishesLine, StagesLine, WithdrawSays}

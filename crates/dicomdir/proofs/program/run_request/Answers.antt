@@ -1,7 +1,7 @@
 -- Where a command runs, no path is empty.
 use Rattle.std.proofs.Common.{ℕ, arith, inl, inr, refl, rules, subst}
 use Rattle.dd_line.specs.Requests.{written_of}
-use Rattle.dicomdir.specs.EmptyPaths.{IsEmptyAt}
+use Rattle.dd_inputs.specs.EmptyPaths.{IsEmptyAt}
 use Rattle.dicomdir.proofs.EmptyWords.{folder_seen, none_empty, some_empty}
 use Rattle.dicomdir.proofs.RefusedRuns.{refused_empty, refused_names}
 use Rattle.dicomdir.proofs.program.run_request.Goals as goal

@@ -1,8 +1,8 @@
 -- A command is done where it has made its file-set: of the folder, the label and the limit of its request.
 use Rattle.std.proofs.Common.{◌∙◌, refl, rules}
 use Rattle.dd_line.specs.Line.{words_of}
-use Rattle.dicomdir.proofs.HavingPaths.{all_named}
-use Rattle.dd_file_set.specs.declared.refusal.Refusal.{Refusal}
+use Rattle.dd_inputs.proofs.HavingPaths.{all_named}
+use Rattle.dd_faults.specs.declared.refusal.Refusal.{Refusal}
 use Rattle.dicomdir.proofs.LinesMade.{index_done, merge_done, publish_done, publish_status, stage_status}
 use Rattle.dicomdir.proofs.LinesSaid.{index_said, merge_said, publish_said}
 use Rattle.dicomdir.proofs.StagedSources.{done_stages}

@@ -13,7 +13,8 @@ use Rattle.dicomdir.proofs.PilesMade.{all_in_piles, done_publish, have_places, o
 use Rattle.dicomdir.proofs.PrintedLines.{unnoted}
 use Rattle.dicomdir.proofs.SaidLines.{on_ok_gives}
 use Rattle.dd_file_set.specs.Made.{MakesFileSet}
-use Rattle.dicomdir.specs.Grounds.{GroundsOfMaking, HasUnfitImage}
+use Rattle.dd_faults.specs.Grounds.{GroundsOfMaking}
+use Rattle.dicomdir.specs.Grounds.{HasUnfitImage}
 use Rattle.dicomdir.specs.Noted.{IsNotedIndex}
 use Rattle.dicomdir.specs.Publishes.{IsCopyAt, MayLinkAt, said_at}
 use Rattle.dicomdir.proofs.publishing.publish_piles.Goals as goal
@@ -43,13 +44,13 @@ pub invariant_of-set : goal.invariant_of-set
 invariant_of-set g c =
     let piles = c.args.piles.now in
     record {
-      in_piles = rw c.deref-4.ensures.value (all_in_piles (words_of piles) (length piles) _ c.in_ok-names.field-0
+      in_piles = rw c.deref-5.ensures.value (all_in_piles (words_of piles) (length piles) _ c.in_ok-names.field-0
           (length-map piles (λ word. string_bytes word)) c.in_ok-names.ensures.piled);
     }
 
 pub invariant_of-set-2 : goal.invariant_of-set-2
 invariant_of-set-2 g c = record {
-  within = rw (c.deref-4.ensures.value, c.deref-6.ensures.value) (have_places (words_of c.args.piles.now) _
+  within = rw (c.deref-5.ensures.value, c.deref-7.ensures.value) (have_places (words_of c.args.piles.now) _
       c.in_ok-names.field-0 c.in-Ok.past.noted.indexed.picks.items c.in_ok-names.ensures.piled
       (λ answers found. (c.in-Ok.ensures.within answers found).picks));
 }
@@ -59,17 +60,17 @@ returns-clause-made g c = λ makes.
     let making = c.args.making in
     let piles = words_of c.args.piles.now in
     let noted = c.in-Ok.past.noted in
-    let made : MakesFileSet (IsCopyAt piles c.deref-4.result.now)
-    (MayLinkAt (making.link ≡ true) c.deref-4.result.now)
-    (said_at c.deref-5.result.now) making.folder.now noted.indexed.plan c.deref-6.result.now
+    let made : MakesFileSet (IsCopyAt piles c.deref-5.result.now)
+    (MayLinkAt (making.link ≡ true) c.deref-5.result.now)
+    (said_at c.deref-6.result.now) making.folder.now noted.indexed.plan c.deref-7.result.now
     (g.F.Files.held c.keep_dates.new.files) (g.F.Files.held c.make_file_set.new.files) =
     c.in_ok-status.ensures.made refl in
-    rw (c.status_past-2.ensures, c.deref-7.ensures.value) (done_publish making.names.now.choice making.max_bytes piles
+    rw (c.status_past-2.ensures, c.deref-8.ensures.value) (done_publish making.names.now.choice making.max_bytes piles
     c.in_ok-names.field-0 noted c.in_ok-status.status (making.link ≡ true) making.folder.now _ _
     c.in_ok-status.ensures.status c.in_ok-names.ensures.piled c.in-Ok.ensures.notes (rw (
-      c.deref-4.ensures.value,
       c.deref-5.ensures.value,
       c.deref-6.ensures.value,
+      c.deref-7.ensures.value,
       c.keep_dates.ensures.kept,
       c.read_piles.ensures.kept,
     ) at made))
@@ -79,7 +80,7 @@ returns-clause-printed g c =
     let making = c.args.making in
     let noted = c.in-Ok.past.noted in
     let ok : IsOk c.tell_noted.result = search rules in
-    rw (c.status_past-2.ensures, c.deref-7.ensures.value) (publish_prints making.names.now.choice making.max_bytes
+    rw (c.status_past-2.ensures, c.deref-8.ensures.value) (publish_prints making.names.now.choice making.max_bytes
     (words_of c.args.piles.now) c.in_ok-names.field-0 noted g.O.Write c.in_ok-status.status making.style making.dry_run
     making.strict _ c.args.out.now c.tell_noted.new.out c.make_file_set.new.out c.in_ok-names.ensures.piled
     c.in-Ok.ensures.notes (on_ok_gives c.tell_noted.result ok (rw c.deref-3.ensures.value at c.tell_noted.ensures.told))
@@ -131,13 +132,13 @@ returns-in_err-status-clause-grounds g c =
     let noted = c.in-Ok.past.noted in
     let refusal = c.in_err-status.field-0.0 in
     let p = err_from_is_err_and c.from_residual-in_err-status.result c.from_residual-in_err-status.ensures.1 in
-    let grounds : GroundsOfMaking (HasUnfitImage (IsCopyAt piles c.deref-4.result.now)
-    (MayLinkAt (making.link ≡ true) c.deref-4.result.now) (said_at c.deref-5.result.now) (making.link ≡ true)
-    noted.indexed.plan c.deref-6.result.now (g.F.Files.held c.make_file_set.new.files)) ⊥ refusal.fault =
+    let grounds : GroundsOfMaking (HasUnfitImage (IsCopyAt piles c.deref-5.result.now)
+    (MayLinkAt (making.link ≡ true) c.deref-5.result.now) (said_at c.deref-6.result.now) (making.link ≡ true)
+    noted.indexed.plan c.deref-7.result.now (g.F.Files.held c.make_file_set.new.files)) ⊥ refusal.fault =
     c.in_err-status.ensures.grounds in
     rw (p.1, p.2) (piles_made making.names.now.choice making.max_bytes piles making.link _ _ c.in_ok-names.field-0
     noted c.in_ok-names.ensures.piled c.in-Ok.ensures.notes refusal.subject refusal.fault
-    (rw (c.deref-4.ensures.value, c.deref-5.ensures.value, c.deref-6.ensures.value) at grounds))
+    (rw (c.deref-5.ensures.value, c.deref-6.ensures.value, c.deref-7.ensures.value) at grounds))
 
 pub returns-in_err-refuse_noted-clause-grounds : goal.returns-in_err-refuse_noted-clause-grounds
 returns-in_err-refuse_noted-clause-grounds g c =

@@ -5,7 +5,7 @@ use Rattle.std.specs.Prelude.{length, string_bytes}
 use Rattle.dd_line.specs.Line.{words_of}
 use Rattle.dicomdir.proofs.GroundedPiles.{stage_grounds}
 use Rattle.dicomdir.proofs.StagedSources.{all_read, stage_status, stages_said, told_one}
-use Rattle.dicomdir.specs.From.{from_text}
+use Rattle.dd_inputs.specs.From.{from_text}
 use Rattle.dicomdir.proofs.staging.run_stage.Goals as goal
 
 pub returns-in-Ok-clause-failed : goal.returns-in-Ok-clause-failed

@@ -1,5 +1,5 @@
 -- Each source is counted once.
-use Rattle.std.proofs.Common.{rules}
+use Rattle.std.proofs.Common.{length, rules}
 use Rattle.dicomdir.proofs.AddingUp.{index_adds_up}
 use Rattle.dicomdir.proofs.sum.Sum.of.Goals as goal
 
@@ -8,4 +8,4 @@ returns-clause-counts c = search rules
 
 pub returns-clause-adds : goal.returns-clause-adds
 returns-clause-adds c = λ choice limits answers all notes.
-    index_adds_up choice limits answers c.args.past.now.noted c.args.sources _ all notes (returns-clause-counts c)
+    index_adds_up choice limits answers c.args.past.now.noted (length c.args.sources.now) _ all notes (returns-clause-counts c)

@@ -1,0 +1,5 @@
+pub mod HavingPaths
+mod LookedUp
+mod NameParts
+mod NamesDue
+mod OpenedDirectories

@@ -1,0 +1,4 @@
+pub mod EmptyPaths
+pub mod From
+pub mod ListedNames
+pub mod Reasons

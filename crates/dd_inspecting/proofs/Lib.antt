@@ -1,0 +1,2 @@
+pub mod DirectoryGrounds
+mod Inspected
