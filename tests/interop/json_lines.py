@@ -22,7 +22,7 @@ CONTROL = re.compile("[\0-\x1f\x7f-\x9f]")
 # Up to eight names with up to eight characters (PS3.10 section 8.2).
 FILE_ID = re.compile(r"[A-Z0-9_]{1,8}(\\[A-Z0-9_]{1,8}){0,7}")
 # Members that an object may lack.
-OPTIONAL = {("RECORD", "file"), ("PLAN", "image_bytes"), ("FAULT", "cause"), ("FAULT", "help")}
+OPTIONAL = {("RECORD", "file"), ("RECORD", "uid"), ("PLAN", "image_bytes"), ("FAULT", "cause"), ("FAULT", "help")}
 # What the value representations have whose texts may be other than ASCII, or have lines.
 BY_CHARACTER_SET = ("LO", "LT", "PN", "SH", "ST", "UC", "UT")
 WITH_LINES = ("LT", "ST", "UT")
@@ -190,6 +190,7 @@ def hold_fault(line):
     found = re.match(r" (\d\d) ([A-Z]\w*)", rest)
     cause = {"number": int(found[1]), "name": found[2]} if found else None
     wanted(rest != fault["words"] and cause == fault.get("cause"), f"the words of {fault} say something else")
+    wanted("class_name" not in fault or fault["number"] == 32, f"{fault} names a class")
 
 
 def words_of(line):
@@ -221,7 +222,8 @@ def changed(line):
         yield name, {other: value for other, value in line.items() if other != name}
         yield None, {**line, name: [line[name]]}
         if isinstance(line[name], dict) and name != "elements":
-            yield from ((None, {**line, name: one}) for part, one in changed(line[name]) if part != "cause")
+            yield from ((None, {**line, name: one}) for part, one in changed(line[name])
+                       if part not in ("cause", "class_name"))
     yield None, {**line, "more": 1}
 
 
