@@ -14,6 +14,8 @@ mod own;
 #[cfg(test)]
 mod publishing;
 #[cfg(test)]
+mod selection;
+#[cfg(test)]
 mod sending;
 #[cfg(test)]
 mod walks;

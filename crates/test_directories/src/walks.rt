@@ -51,7 +51,7 @@ const DEEP: &str = "\
 34 > 2088 bytes, 58 TooDeep 1984
 100 > 5520 bytes, 58 TooDeep 1984";
 
-fn directory(alloc: Global, name: &str) -> Result<Vec<u8>, Fail> {
+pub(crate) fn directory(alloc: Global, name: &str) -> Result<Vec<u8>, Fail> {
     match name {
         "v1" => v1(alloc),
         "v2" => v2(alloc),
@@ -95,13 +95,15 @@ fn records(alloc: Global, forest: &Forest<'_>) -> Result<String, Fail> {
     Ok(text)
 }
 
+pub(crate) fn shown(alloc: Global, forest: &Forest<'_>) -> Result<String, Fail> {
+    let (records, unreached) = (records(alloc, forest)?, forest.unreached);
+    Ok(format!(in alloc; "{records}{unreached}")?)
+}
+
 fn read(alloc: Global, question: &str) -> Result<String, Fail> {
     let bytes = changed(alloc, question)?;
     match read_directory(alloc, &bytes) {
-        Ok(forest) => {
-            let (records, unreached) = (records(alloc, &forest)?, forest.unreached);
-            Ok(format!(in alloc; "{records}{unreached}")?)
-        }
+        Ok(forest) => shown(alloc, &forest),
         Err(fault) => Ok(format!(in alloc; "{fault}")?),
     }
 }

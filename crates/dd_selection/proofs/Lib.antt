@@ -1,0 +1,3 @@
+mod AskedValues
+mod CutTrees
+mod LeftBelow
