@@ -67,11 +67,11 @@ class Table(NamedTuple):
 
 def table(data: bytes, tags: Sequence[int]) -> Table:
     """A row for each record, and where the value of each ends at each tag, by rows. No tag stands there twice."""
-    # A record has 52 bytes or more, and each value stands in the bytes.
+    # A record has 52 bytes or more, and each value stands in the bytes, so that no end is more than LONGEST.
     width, most = len(tags), len(data) // 52
     _, (rows, ends, text) = _asked(
         "rows", [data, (array("I", tags), 1)],
-        [Room("I", 4, most), Room("Q", 1, most * width), Room("B", 1, len(data))],
+        [Room("I", 4, most), Room("Q", 1, most * width, short=True), Room("B", 1, len(data))],
         lambda answer: [answer.rows, answer.rows * width, answer.text])
     return Table(rows, ends, text)
 

@@ -23,6 +23,8 @@ class Room(NamedTuple):
     kind: str
     numbers: int
     items: int
+    # Are its numbers, of kind 'Q', all small enough to be held as 'I'?
+    short: bool = False
 
     def size(self, items: int) -> int:
         """How many bytes so many of its items have."""
@@ -61,6 +63,9 @@ def _read(view: memoryview, room: Room, items: int) -> Any:
     given = view[:room.size(items)]
     if room.kind == "B":
         return given.tobytes()
+    if room.short:
+        # The low half of a number comes first: no machine that `_library` takes has the other order.
+        return array("I", given.cast("I")[::2].tobytes())
     out = array(room.kind)
     out.frombytes(given)
     return out

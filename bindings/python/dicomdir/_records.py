@@ -1,6 +1,8 @@
 """Directories as records, and file-sets as folders that have one."""
 import os
 from array import array
+from bisect import bisect_left
+from functools import lru_cache
 from typing import (TYPE_CHECKING, Any, Callable, Dict, Iterable, Iterator, List, NamedTuple, Optional, Sequence, Tuple,
                     Union)
 
@@ -26,6 +28,8 @@ KEYWORDS: Dict[str, int] = {
 _TYPE, _FILE, _CHARSET = 0x00041430, 0x00041500, 0x00080005
 # What an image is asked for by the names of its own elements (0008,0018), (0008,0016) and (0002,0010).
 _TAGS = {**KEYWORDS, "SOPInstanceUID": 0x00041511, "SOPClassUID": 0x00041510, "TransferSyntaxUID": 0x00041512}
+# Of so many different values of an element, the last ones, each is held as one text.
+_SHARED = 128
 _FINDINGS = ("", "BADID", "MISSING", "UNREADABLE", "DIFFERS", "MISLABELLED", "MISLABELLED", "NODIGEST")
 
 
@@ -192,20 +196,21 @@ class FileSet:
         self._texts: Dict[int, List[Optional[str]]] = {}
         self._front: Optional[_bytes.Front] = None
         self._climb()
-        self._files = [row for row, end in enumerate(self._after) if self._rows[4 * row + 3] and self._own(row, _FILE)]
+        self._files = array("I", (row for row, (start, end) in enumerate(self._spans(_FILE))
+                                  if start < end and self._rows[4 * row + 3]))
 
     def _climb(self) -> None:
         """Finds for each row the one above it, and the one after all below it."""
         levels = self._rows[1::4]
-        above: "array[int]" = array("q")
+        self._above: "array[int]" = array("i", [-1]) * len(levels)
+        self._after: "array[int]" = array("i", [len(levels)]) * len(levels)
         path: List[int] = []
-        self._after: "array[int]" = array("q", [len(levels)]) * len(levels)
         for row, level in enumerate(levels):
             while len(path) > level:
                 self._after[path.pop()] = row
-            above.append(path[-1] if path else -1)
+            if path:
+                self._above[row] = path[-1]
             path.append(row)
-        self._above: "array[int]" = above
 
     def _below(self, row: int) -> List[Record]:
         end, at, found = (self._after[row] if row >= 0 else len(self._after)), row + 1, []
@@ -214,25 +219,36 @@ class FileSet:
             at = self._after[at]
         return found
 
+    def _read_values(self, tag: int) -> None:
+        table = _bytes.table(self.data, [tag])
+        self._raw[tag] = (table.ends, table.text, 1, 0)
+
     def _own(self, row: int, tag: int) -> bytes:
         """The bytes of the value of a record itself."""
         if tag not in self._raw:
-            table = _bytes.table(self.data, [tag])
-            self._raw[tag] = (table.ends, table.text, 1, 0)
+            self._read_values(tag)
         ends, text, width, place = self._raw[tag]
         at = row * width + place
         return text[ends[at - 1] if at else 0:ends[at]]
 
+    def _spans(self, tag: int) -> Iterator[Tuple[int, int]]:
+        """Where the value of each record itself begins and ends, at a tag that is read."""
+        ends, _, width, place = self._raw[tag]
+        starts = ends[place - 1::width] if place else array("I", [0]) + ends[width - 1:-1:width]
+        return zip(starts, ends[place::width])
+
     def _column(self, tag: int) -> List[Optional[str]]:
         """The text of each record at a tag, its own or from above."""
         if tag not in self._texts:
-            column: List[Optional[str]] = []
-            for row, above in enumerate(self._above):
-                value = self._own(row, tag)
-                if value:
-                    column.append(text_of(value, self._own(row, _CHARSET)))
-                else:
-                    column.append(column[above] if above >= 0 else None)
+            if tag not in self._raw:
+                self._read_values(tag)
+            column: List[Optional[str]] = [None] * len(self._above)
+            text, shared = self._raw[tag][1], lru_cache(_SHARED)(text_of)
+            for row, (above, (start, end)) in enumerate(zip(self._above, self._spans(tag))):
+                if start < end:
+                    column[row] = shared(text[start:end], self._own(row, _CHARSET))
+                elif above >= 0:
+                    column[row] = column[above]
             self._texts[tag] = column
         return self._texts[tag]
 
@@ -293,7 +309,10 @@ class FileSet:
                          f"{used.count('STUDY')} studies, {used.count('SERIES')} series, {len(self)} files>")
 
     def __contains__(self, record: object) -> bool:
-        return isinstance(record, Record) and record.fileset is self and record.row in self._files
+        if not isinstance(record, Record) or record.fileset is not self:
+            return False
+        at = bisect_left(self._files, record.row)
+        return at < len(self._files) and self._files[at] == record.row
 
     def find(self, load: bool = False, **keys: Any) -> List[Record]:
         """The records with files that have these values, by keyword: find(PatientID="P1", Modality="CT").
