@@ -1,8 +1,9 @@
 """New file-sets: their directories are made by the library, and their files are copied here."""
 import os
+from copy import copy
 from functools import cached_property
 from hashlib import sha256
-from typing import Any, Callable, Iterable, List, NamedTuple, Optional, Tuple, Union
+from typing import Any, Iterable, Iterator, List, NamedTuple, Optional, Sequence, Tuple, Union
 
 from . import _bytes
 from ._bytes import DIGEST
@@ -15,10 +16,36 @@ _FOLDER = os.O_RDONLY | os.O_DIRECTORY | os.O_CLOEXEC
 _NEW = os.O_WRONLY | os.O_CREAT | os.O_EXCL | os.O_NOFOLLOW | os.O_CLOEXEC
 
 
-class Source(NamedTuple):
-    """A file that is copied: what finds its path, and what opens it."""
-    path: Callable[[], str]
-    open: Callable[[], int]
+class Given(NamedTuple):
+    """A file that is copied, by the path that was given."""
+    given: str
+
+    def path(self) -> str:
+        """Its path."""
+        return self.given
+
+    def open(self) -> int:
+        """A descriptor of it. Raises OSError."""
+        return open_source(self.given)
+
+
+class Member(NamedTuple):
+    """A file of a file-set that is copied, by its folder and File ID."""
+    folder: Optional[str]
+    file_id: str
+
+    def path(self) -> str:
+        """Its path, as `Record.path` gives it."""
+        return path_below(self.folder, self.file_id.split("\\"))
+
+    def open(self) -> int:
+        """A descriptor of it. Raises OSError."""
+        if self.folder is None:
+            raise FileNotFoundError("the file-set was read from bytes")
+        return open_below(self.folder, self.file_id.split("\\"))
+
+
+Source = Union[Given, Member]
 
 
 class LeftOut(NamedTuple):
@@ -38,18 +65,18 @@ class Built:
     `build`, or as `Record.path` of the file-sets gives them.
     """
 
-    def __init__(self, made: _bytes.Made, sources: List[Source], skipped: List[Tuple[str, Fault]],
+    def __init__(self, made: _bytes.Made, sources: Sequence[Source], skipped: List[Tuple[str, Fault]],
                  left_out: List[LeftOut], notes: _bytes.Notes) -> None:
         self.directory, self.skipped, self._sources = made.directory, skipped, sources
         self.left_out, self.repeated, self.names = left_out, notes.repeated, notes.names
-        self._records = list(FileSet(made.directory))
-        if len(self._records) != len(sources):
+        self._fileset = FileSet(made.directory)
+        if len(self._fileset) != len(sources):
             raise SystemError("libdicomdir picked other files than its directory names")
 
     @cached_property
     def images(self) -> List[Tuple[str, Record]]:
         """A (path, record) for each image. The paths are looked for when this is first asked for."""
-        return [(source.path(), record) for source, record in zip(self._sources, self._records)]
+        return [(source.path(), record) for source, record in zip(self._sources, self._fileset)]
 
     def write(self, folder: Path) -> FileSet:
         """Copies the images to the folder, which is made where it is not there, and then writes its DICOMDIR.
@@ -65,20 +92,23 @@ class Built:
         at = _open_folder(top)
         try:
             digests = self._copy_all(top, at)
-            for source, changed in zip(self._sources, _changed(self.directory, self._records, digests)):
+            for source, changed in zip(self._sources, _changed(self._fileset, digests)):
                 if changed:
                     raise Fault(97, path=source.path())
             _write_new(at, "DICOMDIR", os.path.join(top, "DICOMDIR"), self.directory)
             _store(at, top)
         finally:
             os.close(at)
-        return FileSet(self.directory, top)
+        # It shares what is held of the directory.
+        written = copy(self._fileset)
+        written.path = top
+        return written
 
     def _copy_all(self, top: str, at: int) -> List[bytes]:
         """The digest of each copy. Images come in the order of their folders, each of which is stored as it is left."""
         digests, opened = [], _Folders(top, at)
         try:
-            for source, record in zip(self._sources, self._records):
+            for source, record in zip(self._sources, self._fileset):
                 parts = parts_of(record.raw("ReferencedFileID")) or []
                 below = opened.enter(parts[:-1])
                 digests.append(_copy(source, below, parts[-1], os.path.join(top, *parts)))
@@ -223,14 +253,10 @@ def _copy(source: Source, below: int, name: str, path: str) -> bytes:
     return digest.digest()
 
 
-def _changed(directory: bytes, records: List[Record], digests: List[bytes]) -> List[bool]:
+def _changed(fileset: FileSet, digests: List[bytes]) -> Iterator[bool]:
     """Whether each copy is another file than its record says, by the library."""
-    files = [(record.row, DIGEST, digest) for record, digest in zip(records, digests)]
-    return [found.kind != 0 for found in (_bytes.find_in_files(directory, files, False, True) if files else [])]
-
-
-def _given(path: str) -> Source:
-    return Source(lambda: path, lambda: open_source(path))
+    files = [(record.row, DIGEST, digest) for record, digest in zip(fileset, digests)]
+    return (found.kind != 0 for found in (_bytes.find_in_files(fileset.data, files, False, True) if files else ()))
 
 
 def build(paths: Iterable[Path], set_id: str, uid: str, strict: bool) -> Built:
@@ -239,19 +265,20 @@ def build(paths: Iterable[Path], set_id: str, uid: str, strict: bool) -> Built:
     directory, and with `strict` 98 Strict where something is skipped or noted."""
     asked = listed(paths, "build takes a list of paths")
     _bytes.merge([], set_id, uid)
-    parts: List[bytes] = []
-    kept: List[Source] = []
+    parts = _bytes.Joined()
+    kept: List[Given] = []
     skipped: List[Tuple[str, Fault]] = []
     for path in map(os.fsdecode, asked):
         try:
-            parts.append(_bytes.of_image(read_source(path)))
-            kept.append(_given(path))
+            parts.add(_bytes.of_image(read_source(path)))
+            kept.append(Given(path))
         except Fault as fault:
             if not 31 <= fault.status <= 39:
                 raise fault.with_path(path) from fault.__cause__
             # A new one, as a fault that was raised keeps the bytes.
             skipped.append((path, Fault(fault.status, fault)))
     made, notes = _bytes.merge(parts, set_id, uid), _bytes.notes(parts, set_id, uid)
+    del parts
     if strict and (skipped or notes.left_out or notes.names):
         raise Fault(98)
     left_out = [LeftOut(kept[file].path(), kept[other].path(), instance)
@@ -266,19 +293,9 @@ def listed(given: Iterable[Any], wanted: str) -> List[Any]:
     return list(given)
 
 
-def _member(folder: Optional[str], file_id: str) -> Source:
-    parts = file_id.split("\\")
-
-    def opened() -> int:
-        if folder is None:
-            raise FileNotFoundError("the file-set was read from bytes")
-        return open_below(folder, parts)
-    return Source(lambda: path_below(folder, parts), opened)
-
-
 def _of_sets(made: _bytes.Made, filesets: List[FileSet], notes: _bytes.Notes) -> Built:
-    def member(place: Tuple[int, str]) -> Source:
-        return _member(filesets[place[0]].path, place[1])
+    def member(place: Tuple[int, str]) -> Member:
+        return Member(filesets[place[0]].path, place[1])
     left_out = [LeftOut(member(file).path(), member(other).path(), instance)
                 for file, other, instance in notes.left_out]
     return Built(made, [member(place) for place in made.picks], [], left_out, notes)
@@ -300,7 +317,7 @@ def merge(filesets: Iterable[FileSet], set_id: str = "", uid: str = "") -> Built
     if not all(isinstance(one, FileSet) for one in sets):
         raise TypeError("merge takes a list of file-sets, as `read` gives them")
     try:
-        data = [one.data for one in sets]
+        data = _bytes.Joined(one.data for one in sets)
         return _of_sets(_bytes.merge(data, set_id, uid), sets, _bytes.notes(data, set_id, uid))
     except Fault as fault:
         if not 51 <= fault.status <= 65:

@@ -1,7 +1,8 @@
 """The functions of dicomdir.h over bytes, without files."""
 from array import array
 from functools import lru_cache
-from typing import Any, Callable, Dict, Iterable, List, NamedTuple, Sequence, Tuple, Union
+from io import BytesIO
+from typing import Any, Callable, Dict, Iterable, Iterator, List, NamedTuple, Sequence, Tuple, Union
 
 from ._calls import Answer, Input, Room, ask
 from ._faults import Fault
@@ -42,12 +43,11 @@ def _ended(texts: Iterable[bytes]) -> Tuple[bytes, "array[int]"]:
     return b"".join(all_texts), ends
 
 
-def _cut(text: bytes, ends: Iterable[int]) -> List[bytes]:
-    pieces, start = [], 0
+def _cut(text: bytes, ends: Iterable[int]) -> Iterator[bytes]:
+    start = 0
     for end in ends:
-        pieces.append(text[start:end])
+        yield text[start:end]
         start = end
-    return pieces
 
 
 def listing(data: Data) -> str:
@@ -110,13 +110,13 @@ class Found(NamedTuple):
     cause: int
 
 
-def find_in_files(data: bytes, files: Sequence[Tuple[int, int, bytes]], keys: bool, strict: bool) -> List[Found]:
+def find_in_files(data: bytes, files: Sequence[Tuple[int, int, bytes]], keys: bool, strict: bool) -> Iterator[Found]:
     """What `dicomdir check` finds of files: of each the number of its record, what is given of it, and the bytes."""
     contents, ends = _ended(content for _, _, content in files)
-    given = array("Q", [number for (row, kind, _), end in zip(files, ends) for number in (row, end, kind)])
+    given = array("Q", (number for (row, kind, _), end in zip(files, ends) for number in (row, end, kind)))
     _, (found,) = _asked("findings", [data, (given, 3), contents, bool(keys), bool(strict)],
                          [Room("I", 4, len(files))], lambda answer: [answer.rows])
-    return [Found(*found[at:at + 4]) for at in range(0, len(found), 4)]
+    return (Found(*found[at:at + 4]) for at in range(0, len(found), 4))
 
 
 def of_image(data: Data) -> bytes:
@@ -146,10 +146,35 @@ def _made(name: str, inputs: Sequence[Any], size: int, more: int, set_id: str, u
     return Made(text, [(number, file.decode("ascii")) for number, file in zip(sets, _cut(files, ends))])
 
 
-def merge(directories: Iterable[Data], set_id: str = "", uid: str = "") -> Made:
+class Joined:
+    """Directories one after the other, and where each ends. Each is copied as it is added, and held once."""
+
+    def __init__(self, directories: Iterable[Data] = ()) -> None:
+        self._held = BytesIO()
+        self.ends: "array[int]" = array("Q")
+        for directory in directories:
+            self.add(directory)
+
+    def add(self, directory: Data) -> None:
+        """Adds one more."""
+        self._held.write(as_bytes(directory))
+        self.ends.append(self._held.tell())
+
+    @property
+    def data(self) -> bytes:
+        """All their bytes, which are no copy."""
+        return self._held.getvalue()
+
+
+def _joined(directories: Union[Joined, Iterable[Data]]) -> Joined:
+    return directories if isinstance(directories, Joined) else Joined(directories)
+
+
+def merge(directories: Union[Joined, Iterable[Data]], set_id: str = "", uid: str = "") -> Made:
     """The directory of the images of all these, as `dicomdir merge` makes it."""
-    data, ends = _ended(map(as_bytes, directories))
-    return _made("merge", [data, (ends, 1)], len(data), 0, set_id, uid)
+    joined = _joined(directories)
+    data = joined.data
+    return _made("merge", [data, (joined.ends, 1)], len(data), 0, set_id, uid)
 
 
 class Notes(NamedTuple):
@@ -160,14 +185,15 @@ class Notes(NamedTuple):
     repeated: int
 
 
-def notes(directories: Iterable[Data], set_id: str = "", uid: str = "") -> Notes:
+def notes(directories: Union[Joined, Iterable[Data]], set_id: str = "", uid: str = "") -> Notes:
     """What `merge` of the same directories leaves out."""
-    data, ends = _ended(map(as_bytes, directories))
+    joined = _joined(directories)
+    data = joined.data
     _, (rows, text_ends, text, (_, _, _, repeated, _)) = _asked(
-        "notes", [data, (ends, 1), _text(set_id), _text(uid)],
+        "notes", [data, (joined.ends, 1), _text(set_id), _text(uid)],
         [Room("Q", 4, len(data) // 200), Room("Q", 1, len(data) // 60), Room("B", 1, len(data)), Room("Q", 5, 1)],
         lambda answer: [answer.rows, answer.files, answer.text, 1], lone=True)
-    made, texts = Notes([], {}, repeated), iter(_cut(text, text_ends))
+    made, texts = Notes([], {}, repeated), _cut(text, text_ends)
     for kind, number, kept, names in zip(rows[::4], rows[1::4], rows[2::4], rows[3::4]):
         first, *others = (next(texts).decode("latin-1") for _ in range(3 if kind == _LEFT_OUT else names + 1))
         if kind == _LEFT_OUT:

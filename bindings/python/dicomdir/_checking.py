@@ -52,10 +52,10 @@ def in_folder(folder: str, row: int, file_id: bytes, whole: bool) -> _File:
 
 def _found(directory: bytes, batch: List[_File], keys: bool, strict: bool) -> List[Tuple[int, Found]]:
     """What is found of a batch, which is emptied."""
-    found = find_in_files(directory, batch, keys, strict) if batch else []
-    rows = [row for row, _, _ in batch]
+    answers = find_in_files(directory, batch, keys, strict) if batch else ()
+    found = [(row, one) for (row, _, _), one in zip(batch, answers) if one.kind]
     batch.clear()
-    return [(row, one) for row, one in zip(rows, found) if one.kind]
+    return found
 
 
 def _given(folder: str, file_id: bytes, whole: bool) -> Tuple[int, bytes]:
