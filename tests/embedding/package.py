@@ -3,6 +3,7 @@
     package.py MADE ROOM
 """
 import copy
+import gc
 import hashlib
 import io
 import os
@@ -12,6 +13,7 @@ import subprocess
 import sys
 import textwrap
 import threading
+import tracemalloc
 import warnings
 from hashlib import sha256
 from pathlib import Path
@@ -19,7 +21,7 @@ from pathlib import Path
 import dicomdir
 from cases import EXAMPLES, TOP, copy_shown, head_of, run
 from crafted import element
-from dicomdir import _bytes, _calls, _opening, _text
+from dicomdir import _bytes, _calls, _opening, _records, _text
 
 made, room = Path(sys.argv[1]), Path(sys.argv[2])
 passed = 0
@@ -237,6 +239,35 @@ def memory():
     same("large files", (images, found, taken < 1.25 * (size >> 20)), (3, 0, True))
 
 
+def held(function):
+    """What a call gives, and how many bytes Python holds for it."""
+    tracemalloc.start()
+    given = function()
+    gc.collect()
+    size, _ = tracemalloc.get_traced_memory()
+    tracemalloc.stop()
+    return given, size
+
+
+def small_records():
+    """How many bytes are held for each of 1,003 records: of a directory that is read, of all values that are asked for
+    then, and of a merge."""
+    data, folder = EXAMPLES[0].read_bytes(), room / "records"
+    parts = (dicomdir.of_image(data.replace(b"1.2.3.4.5\0", b"1.2.3.%d" % number)) for number in range(1000, 2000))
+    folder.mkdir()
+    (folder / "DICOMDIR").write_bytes(_bytes.merge(parts).directory)
+
+    def ask_for_all():
+        for keyword in _records.KEYWORDS:
+            disc.find_values(keyword)
+    disc, read = held(lambda: dicomdir.read(folder))
+    _, asked = held(ask_for_all)
+    _, merged = held(lambda: dicomdir.merge([disc]))
+    count = len(disc.records)
+    for what, size, most in ("read", read, 520), ("values", asked, 350), ("merge", merged, 700):
+        same(f"{what}: {size // count} bytes a record", size <= most * count)
+
+
 def red_image():
     """An image whose Specific Character Set, with control characters, decides how a name is read."""
     data = EXAMPLES[0].read_bytes()
@@ -404,7 +435,7 @@ def threads():
     same("threads", found, [True] * 8)
 
 
-for test in (beside_pydicom, tree, discs, known_files, arguments, lengths, memory, terminals, paths_stay_below, texts,
-             prints, imports, calls, threads):
+for test in (beside_pydicom, tree, discs, known_files, arguments, lengths, memory, small_records, terminals,
+             paths_stay_below, texts, prints, imports, calls, threads):
     test()
 print(f"package: {passed} answers are as wanted")
