@@ -11,6 +11,7 @@ use Rattle.dd_walk.specs.Trees.{Node, Trees, no_trees, tree}
 use Rattle.dd_selection.specs.Selection.{Values, selects_all, left_below, has_one_of, left_of}
 use Rattle.dd_selection.specs.Cuts.{kept_branch, cut, cut_branch}
 use Rattle.dd_selection.specs.SelectedRecords.{kept, stays}
+use Rattle.dd_selection.proofs.LeftBelow.{no_values, none_either}
 
 -- ---- one after the other
 
@@ -47,15 +48,8 @@ nothing_by [] (value ∷ s) r i is = absurd (cc)
 nothing_by [] [] (value ∷ r) i is = absurd (cc)
 nothing_by [] [] [] (value ∷ i) is = absurd (cc)
 
-abbrev no_values : List (List ℕ)
-no_values = []
-
-none_by : (test : Bool) → (if test then [] else []) ≡ no_values
-none_by true = refl
-none_by false = refl
-
 none_left : (level : Level) (node : Node) → left_of level [] node ≡ no_values
-none_left level node = none_by (has_one_of level [] node)
+none_left level node = none_either (has_one_of level [] node)
 
 nothing_below : (node : Node) → left_below nothing node ≡ nothing
 nothing_below node =

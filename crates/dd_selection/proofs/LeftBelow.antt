@@ -30,10 +30,10 @@ below_all values records = of (left_under Patient values.patients records) (left
     (left_under Series values.series records) (left_under Image values.instances records)
 
 -- no values
-abbrev no_values : List (List ℕ)
+abbrev pub no_values : List (List ℕ)
 no_values = []
 
-none_either : (test : Bool) → (if test then [] else []) ≡ no_values
+pub none_either : (test : Bool) → (if test then [] else []) ≡ no_values
 none_either true = refl
 none_either false = refl
 

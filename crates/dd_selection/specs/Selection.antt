@@ -30,8 +30,8 @@ selection_view selection = record {
   instances = texts_view selection.instances.now;
 }
 
--- the element by which a record of this level is known (PS3.3 sections F.5.1 to F.5.3): the Patient ID, the UID of the
--- study or of the series, and that of the instance in its file
+-- the element by which a record of this level is asked for (PS3.3 section F.5): the Patient ID, the Study Instance UID,
+-- the Series Instance UID, and the SOP Instance UID of the file
 abbrev pub tag_of : Level → Tag
 tag_of Patient = tag 0x0010 0x0020
 tag_of Study = tag 0x0020 0x000d
